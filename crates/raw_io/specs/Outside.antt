@@ -1,0 +1,25 @@
+-- What the contracts of files, sources and sinks say of bytes and of counts of faults. All of it is this project's own.
+use Rattle.std.specs.Prelude.{◌≡◌, ℕ, ◌-◌, ◌^◌, ◌<◌, ◌≤◌, ◌⊎◌, List, ◌++◌, length, take, drop, Option, None, Some, ⊤}
+
+-- A count of faults rose in a call, or stands at its last value.
+abbrev pub Rises : ℕ → ℕ → Type 0
+Rises before now = (before < now) ⊎ (now ≡ 2 ^ 64 - 1)
+
+-- The bytes begin with these.
+abbrev pub IsFrontOf : List ℕ → List ℕ → Type 0
+IsFrontOf front bytes = (rest : List ℕ) × (bytes ≡ front ++ rest)
+
+-- A read from an offset put n bytes of the contents at the front of the buffer, and 0 only at their end.
+pub record ReadsAt (contents : List ℕ) (at : ℕ) (buffer : List ℕ) (n : ℕ) : Type 0 where
+  pub bytes : take n buffer ≡ take n (drop at contents)
+  pub within : n ≤ length contents - at
+  pub end : n ≡ 0 → length buffer ≡ 0 ⊎ length contents ≤ at
+
+-- The told bytes that are left, after these were taken from their front. Nothing is claimed of what isn't told.
+abbrev pub Takes : Option (List ℕ) → Option (List ℕ) → List ℕ → Type 0
+Takes None left taken = ⊤
+Takes (Some before) left taken = (rest : List ℕ) × (before ≡ taken ++ rest) × (left ≡ Some rest)
+
+-- A sink stands for each list that it stood for, followed by these bytes.
+abbrev pub Appends : {S : Type 0} → (S → List ℕ → Type 0) → S → S → List ℕ → Type 0
+Appends stands_for old new bytes = (list : List ℕ) → stands_for old list → stands_for new (list ++ bytes)
