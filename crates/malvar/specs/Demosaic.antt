@@ -1,0 +1,72 @@
+-- Demosaicing by a table of weights (Malvar, He and Cutler, 2004, figure 2).
+use Rattle.std.specs.Prelude.{ℕ, ◌+◌, ◌/◌, nat_eq, min, if◌then◌else◌, ℤ, pos, negsuc, ◌+ℤ◌, ◌*ℤ◌, List}
+use Rattle.plane_view.specs.Plane.{Plane, sample, plane_of}
+use Rattle.plane_view.specs.Reflect.{reflected}
+use Rattle.malvar.specs.Pattern.{colour_at}
+
+-- the weights of the samples round a pixel, in sixteenths
+pub record Weights : Type 0 where
+  pub centre : ℤ
+  pub beside : ℤ  -- left and right
+  pub upright : ℤ  -- up and down
+  pub diagonal : ℤ  -- the four diagonal ones
+  pub beside_2 : ℤ  -- left and right by 2
+  pub upright_2 : ℤ  -- up and down by 2
+
+-- the weights by what is wanted, and where
+pub record Table : Type 0 where
+  pub green : Weights  -- green at red or blue
+  pub in_row : Weights  -- red or blue at green, that colour left and right
+  pub in_column : Weights  -- red or blue at green, that colour up and down
+  pub opposite : Weights  -- red at blue, blue at red
+
+-- the filters of figure 2, whose eighths are sixteenths here
+abbrev pub malvar : Table
+malvar = record {
+  green = record { centre = pos 8; beside = pos 4; upright = pos 4; diagonal = pos 0; beside_2 = negsuc 1; upright_2 = negsuc 1 };
+  in_row = record { centre = pos 10; beside = pos 8; upright = pos 0; diagonal = negsuc 1; beside_2 = negsuc 1; upright_2 = pos 1 };
+  in_column = record { centre = pos 10; beside = pos 0; upright = pos 8; diagonal = negsuc 1; beside_2 = pos 1; upright_2 = negsuc 1 };
+  opposite = record { centre = pos 12; beside = pos 0; upright = pos 0; diagonal = pos 4; beside_2 = negsuc 2; upright_2 = negsuc 2 };
+}
+
+-- the weights for a wanted colour at row r, column c, which has another colour
+abbrev pub weights_at : Table → List ℕ → ℕ → ℕ → ℕ → Weights
+weights_at table cfa r c wanted =
+    if nat_eq wanted 1 then table.green
+    else if nat_eq (colour_at cfa r c) 1
+    then (if nat_eq (colour_at cfa r (c + 1)) wanted then table.in_row else table.in_column)
+    else table.opposite
+
+-- the sample so many rows down and columns right of row r, column c, reflected at the plane's edges
+abbrev pub near : Plane → ℕ → ℕ → ℤ → ℤ → ℤ
+near P r c down right = pos (sample P (reflected P.rows (pos r +ℤ down)) (reflected P.cols (pos c +ℤ right)) 0)
+
+-- the weighted sum round row r, column c, in sixteenths
+abbrev pub weighted_sum : Plane → ℕ → ℕ → Weights → ℤ
+weighted_sum P r c w =
+    w.centre *ℤ near P r c (pos 0) (pos 0)
+    +ℤ w.beside *ℤ (near P r c (pos 0) (negsuc 0) +ℤ near P r c (pos 0) (pos 1))
+    +ℤ w.upright *ℤ (near P r c (negsuc 0) (pos 0) +ℤ near P r c (pos 1) (pos 0))
+    +ℤ w.diagonal *ℤ (near P r c (negsuc 0) (negsuc 0) +ℤ near P r c (negsuc 0) (pos 1) +ℤ near P r c (pos 1) (negsuc 0) +ℤ near P r c (pos 1) (pos 1))
+    +ℤ w.beside_2 *ℤ (near P r c (pos 0) (negsuc 1) +ℤ near P r c (pos 0) (pos 2))
+    +ℤ w.upright_2 *ℤ (near P r c (negsuc 1) (pos 0) +ℤ near P r c (pos 2) (pos 0))
+
+-- sixteenths as a whole number, rounded down, and held within 0 and 65535
+abbrev pub clipped : ℤ → ℕ
+clipped (pos n) = min (n / 16) 65535
+clipped (negsuc n) = 0
+
+-- s sixteenths rounded to the nearest number, a half up, and held within 0 and 65535
+abbrev pub rounded : ℤ → ℕ
+rounded s = clipped (s +ℤ pos 8)
+
+-- the sample of a wanted colour at row r, column c
+abbrev pub demosaiced_at : Table → List ℕ → Plane → ℕ → ℕ → ℕ → ℕ
+demosaiced_at table cfa P r c wanted =
+    if nat_eq (colour_at cfa r c) wanted
+    then sample P r c 0
+    else rounded (weighted_sum P r c (weights_at table cfa r c wanted))
+
+-- the demosaiced plane: red, green and blue of each pixel
+abbrev pub demosaiced : Table → List ℕ → Plane → Plane
+demosaiced table cfa P = plane_of P.rows P.cols 3 (demosaiced_at table cfa P)
