@@ -1,0 +1,18 @@
+-- Numbers in a file's byte order (TIFF 6.0, section 2, "Image File Header").
+use Rattle.std.specs.Prelude.{ℕ, List, drop}
+use Rattle.byteorder.specs.Endian.{big_number, little_number}
+use Rattle.tiff_dirs.specs.declared.Order.{Order}
+use Rattle.tiff_dirs.specs.declared.Order.TheVariants.{Big, Little}
+
+-- the number in the n bytes from a place on: lowest byte first in II, highest byte first in MM
+unfoldable pub number_at : Order → ℕ → List ℕ → ℕ → ℕ
+number_at Little n bytes place = little_number n (drop place bytes)
+number_at Big n bytes place = big_number n (drop place bytes)
+
+-- the 16-bit number (SHORT) at a place
+abbrev pub short_at : Order → List ℕ → ℕ → ℕ
+short_at order bytes place = number_at order 2 bytes place
+
+-- the 32-bit number (LONG) at a place
+abbrev pub long_at : Order → List ℕ → ℕ → ℕ
+long_at order bytes place = number_at order 4 bytes place
