@@ -1,0 +1,33 @@
+//! The lines of a script.
+
+ghost use Rattle.std.specs.Prelude.{◌≡◌, ◌==◌, ◌↔◌, ◌++◌, ◌∷◌, IsSome, IfSome, MatchOption, Contains, position};
+ghost use Rattle.dev_settings.specs.Lines.{lines_of, unended, with_first, text_of};
+
+/// The first line of a script, without the line feed that ends it, and the bytes after that line
+/// feed. `None` where no line feed stands in the script.
+pub fn split_line(bytes: &[u8]) -> Option<(&[u8], &[u8])>
+    ensures found { IsSome result ↔ Contains bytes.now 10 }
+    ensures parts { IfSome result (λ p. bytes.now ≡ p.0.now ++ 10 ∷ p.1.now) }
+    ensures lines { MatchOption result (lines_of bytes.now ≡ unended bytes.now)
+        (λ p. lines_of bytes.now ≡ with_first p.0.now (lines_of p.1.now)) }
+{
+    let end = line_end(bytes)?;
+    Some((&bytes[..end], &bytes[end + 1..]))
+}
+
+/// Where the first line feed stands.
+fn line_end(bytes: &[u8]) -> Option<usize>
+    ensures { result ≡ position (λ byte. byte == 10) bytes.now }
+{
+    bytes.iter().position(|byte| *byte == b'\n')
+}
+
+/// A line without the carriage return at its end, where it has one.
+pub(crate) fn text(line: &[u8]) -> &[u8]
+    ensures { result.now ≡ text_of line.now }
+{
+    match line {
+        [front @ .., b'\r'] => front,
+        _ => line,
+    }
+}
