@@ -1,0 +1,15 @@
+-- The raw plane (TIFF 6.0, section 8, StripOffsets; DNG 1.6, chapter 2, on the storage of CFA data).
+use Rattle.std.specs.Prelude.{ℕ, ◌+◌, ◌*◌, List}
+use Rattle.plane_view.specs.Plane.{Plane, plane_of}
+use Rattle.tiff_dirs.specs.Header.{order_of}
+use Rattle.tiff_dirs.specs.Numbers.{short_at}
+use Rattle.dng_tags.specs.declared.frame.Frame.{Frame}
+use Rattle.dng_tags.specs.declared.frame.Segment.{Segment}
+
+-- coded sample i of a segment of 16-bit samples: its two bytes in the file's order
+abbrev pub coded_sample : List ℕ → Segment → ℕ → ℕ
+coded_sample bytes segment i = short_at (order_of bytes) bytes (segment.at + 2 * i)
+
+-- the raw plane of a frame with one strip
+abbrev pub raw : List ℕ → Frame → Plane
+raw bytes frame = plane_of frame.rows frame.cols 1 (λ r c p. coded_sample bytes frame.strip (r * frame.cols + c))
