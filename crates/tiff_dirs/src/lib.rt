@@ -282,7 +282,9 @@ impl<'a> Tiff<'a> {
         ensures place { option_map (slot_at self.now) result ≡ find (λ slot. slot.tag == tag) (entries self.now at) }
         ensures whole { IfSome result (λ place. place + 12 ≤ length self.now) }
     {
-        let count = entry_count(self.order, self.bytes, at)?;
+        let Some(count) = entry_count(self.order, self.bytes, at) else {
+            return None;
+        };
         let entries = at as usize + 2;
         for i in 0..usize::from(count) {
             let place = entries + ENTRY_LEN * i;
