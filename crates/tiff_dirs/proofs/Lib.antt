@@ -1,1 +1,2 @@
 pub mod FirstEntry
+pub mod ValuesLemmas
