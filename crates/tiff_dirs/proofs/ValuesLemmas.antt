@@ -24,6 +24,22 @@ pub size_of-short : (kind : ℕ) → kind ≡ 3 → size_of kind ≡ 2
 unfolding size_of
 size_of-short kind e = rw e refl
 
+pub size_of-rational : (kind : ℕ) → kind ≡ 5 → size_of kind ≡ 8
+unfolding size_of
+size_of-rational kind e = rw e refl
+
+pub size_of-sshort : (kind : ℕ) → kind ≡ 8 → size_of kind ≡ 2
+unfolding size_of
+size_of-sshort kind e = rw e refl
+
+pub size_of-slong : (kind : ℕ) → kind ≡ 9 → size_of kind ≡ 4
+unfolding size_of
+size_of-slong kind e = rw e refl
+
+pub size_of-srational : (kind : ℕ) → kind ≡ 10 → size_of kind ≡ 8
+unfolding size_of
+size_of-srational kind e = rw e refl
+
 -- LONG and IFD are left of the whole types
 whole_left : (kind : ℕ) → IsTrue (is_whole kind) → (kind ≡ 1 → ⊥) → (kind ≡ 3 → ⊥) → (kind ≡ 4) ⊎ (kind ≡ 13)
 whole_left kind whole no_byte no_short = grind (arith, nat_tests)
