@@ -18,6 +18,9 @@ ghost use Rattle.tiff_dirs.specs.Values.{number_in, rational_in};
 use byteorder::{BigEndian, ByteOrder, LittleEndian};
 use std::marker::{Model, PhantomData};
 
+#[cfg(test)]
+mod tests;
+
 /// A file's byte order.
 #[derive(Clone, Copy, Debug, PartialEq, Eq)]
 pub enum Order {
@@ -125,9 +128,9 @@ pub enum EntryFault {
 }
 
 /// An entry of a directory, with the bytes of its value as they stand in the file.
-#[derive(Clone, Copy, Debug)]
+#[derive(Clone, Copy, Debug, PartialEq, Eq)]
 pub struct Entry<'a> {
-    /// What the entry tells.
+    /// Its tag, which says what it tells.
     pub tag: u16,
     /// The type of its numbers, 1 to 13.
     pub kind: u16,
@@ -289,10 +292,7 @@ impl<'a> Tiff<'a> {
         let Some(place) = self.entry_place(dir.at, tag) else {
             return Ok(None);
         };
-        match self.entry(place) {
-            Ok(entry) => Ok(Some(entry)),
-            Err(fault) => Err(fault),
-        }
+        self.entry(place).map(Some)
     }
 
     // Where the first entry with the tag begins, in the directory at an offset.
