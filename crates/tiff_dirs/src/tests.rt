@@ -99,3 +99,92 @@ fn reads_numbers(rt: HostRuntime) -> Result<(), Fail> {
     }
     Ok(())
 }
+
+// An entry that is to be found.
+fn found(tag: u16, kind: u16, count: u32, value: &[u8]) -> Result<Option<Entry<'_>>, EntryFault> {
+    Ok(Some(Entry {
+        tag,
+        kind,
+        count,
+        value,
+    }))
+}
+
+#[test]
+fn finds_entries(rt: HostRuntime) -> Result<(), Fail> {
+    let little = Tiff::open(&LITTLE)?;
+    for (tag, want) in [
+        (4, found(4, 4, 1, &[4, 3, 2, 1])),
+        (20, found(20, 3, 1, &[11, 0])),
+        (21, Err(EntryFault::FloatTag { tag: 21 })),
+        (22, Err(EntryFault::FloatTag { tag: 22 })),
+        (23, Err(EntryFault::BadEntry { tag: 23 })),
+        (24, Err(EntryFault::BadEntry { tag: 24 })),
+        (25, found(25, 1, 5, &[0, 0xF9, 0xFF, 0xFF, 0xFF])),
+        (26, Err(EntryFault::BadEntry { tag: 26 })),
+        (27, Err(EntryFault::BadEntry { tag: 27 })),
+        (28, found(28, 7, 0, &[])),
+        (29, found(29, 4, 1, &[0xFF; 4])),
+        (30, Ok(None)),
+    ] {
+        assert_eq!(rt; little.find(&little.first(), tag), want, "tag {tag}");
+    }
+    let big = Tiff::open(&BIG)?;
+    for (tag, want) in [
+        (2, found(2, 3, 2, &[2, 1, 0xFF, 0xFF])),
+        (3, found(3, 3, 3, &[0, 1, 0, 2, 3, 4])),
+        (21, Err(EntryFault::FloatTag { tag: 21 })),
+        (26, Err(EntryFault::BadEntry { tag: 26 })),
+        (30, Ok(None)),
+    ] {
+        assert_eq!(rt; big.find(&big.first(), tag), want, "tag {tag}");
+    }
+    Ok(())
+}
+
+#[test]
+fn opens_files(rt: HostRuntime) {
+    for (bytes, want) in [
+        (b"".as_slice(), Err(TiffFault::NotTiff)),
+        (b"II*\0\x08\0\0", Err(TiffFault::NotTiff)),
+        (b"II\0*\x08\0\0\0\0\0", Err(TiffFault::NotTiff)),
+        (b"MM*\0\0\0\0\x08\0\0", Err(TiffFault::NotTiff)),
+        (b"IM*\0\x08\0\0\0\0\0", Err(TiffFault::NotTiff)),
+        (b"II*\0\x08\0\0\0", Err(TiffFault::BadDirectory { at: 8 })),
+        (b"II*\0\x08\0\0\0\0", Err(TiffFault::BadDirectory { at: 8 })),
+        (b"II*\0\x08\0\0\0\0\0", Ok(Order::Little)),
+        (b"MM\0*\0\0\0\x08\0\0", Ok(Order::Big)),
+        (
+            b"MM\0*\0\0\0\x08\0\x01",
+            Err(TiffFault::BadDirectory { at: 8 }),
+        ),
+        (
+            b"II*\0\xFF\xFF\xFF\xFF\0\0",
+            Err(TiffFault::BadDirectory { at: u32::MAX }),
+        ),
+    ] {
+        assert_eq!(rt;
+            Tiff::open(bytes).map(|tiff| tiff.order()),
+            want,
+            "in {bytes:?}"
+        );
+    }
+}
+
+#[test]
+fn looks_into_a_further_directory(rt: HostRuntime) -> Result<(), Fail> {
+    // Directory 0 has no entry. Another stands at 10 and ends with the file: tag 254, LONG, 1 number, 1.
+    let bytes = *b"II*\0\x08\0\0\0\0\0\x01\0\xFE\0\x04\0\x01\0\0\0\x01\0\0\0";
+    let tiff = Tiff::open(&bytes)?;
+    let dir = tiff.dir(10)?;
+    assert_eq!(rt; tiff.find(&dir, 254), found(254, 4, 1, &[1, 0, 0, 0]));
+    assert_eq!(rt; tiff.find(&tiff.first(), 254), Ok(None));
+    let short = Tiff::open(&bytes[..23])?;
+    for at in [10, 22, 23, u32::MAX] {
+        assert_eq!(rt;
+            short.dir(at).map(|_| ()),
+            Err(TiffFault::BadDirectory { at })
+        );
+    }
+    Ok(())
+}
