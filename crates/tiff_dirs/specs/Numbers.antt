@@ -1,5 +1,6 @@
 -- Numbers in a file's byte order (TIFF 6.0, section 2, "Image File Header").
-use Rattle.std.specs.Prelude.{ℕ, List, drop}
+use Rattle.std.specs.Prelude.{ℕ, ℤ, List, drop}
+use Rattle.std.specs.Int.{cast_signed, w16, w32}
 use Rattle.byteorder.specs.Endian.{big_number, little_number}
 use Rattle.tiff_dirs.specs.declared.Order.{Order}
 use Rattle.tiff_dirs.specs.declared.Order.TheVariants.{Big, Little}
@@ -16,3 +17,11 @@ short_at order bytes place = number_at order 2 bytes place
 -- the 32-bit number (LONG) at a place
 abbrev pub long_at : Order → List ℕ → ℕ → ℕ
 long_at order bytes place = number_at order 4 bytes place
+
+-- the 16-bit number in two's complement (SSHORT) at a place
+abbrev pub signed_short_at : Order → List ℕ → ℕ → ℤ
+signed_short_at order bytes place = cast_signed w16 (short_at order bytes place)
+
+-- the 32-bit number in two's complement (SLONG) at a place
+abbrev pub signed_long_at : Order → List ℕ → ℕ → ℤ
+signed_long_at order bytes place = cast_signed w32 (long_at order bytes place)

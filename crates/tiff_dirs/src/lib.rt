@@ -11,12 +11,15 @@ ghost use Rattle.std.specs.Option.{option_map};
 ghost use Rattle.tiff_dirs.specs.Entries.{entries, entry_of, field_or_fault, slot_at, value_place};
 ghost use Rattle.tiff_dirs.specs.Header.{directory_fits, directory_of, entry_count, first_directory, has_header, open_of, order_of};
 ghost use Rattle.tiff_dirs.specs.Kinds.{is_fraction, is_whole, size_of};
-ghost use Rattle.tiff_dirs.specs.Numbers.{long_at, short_at};
+ghost use Rattle.tiff_dirs.specs.Numbers.{long_at, short_at, signed_long_at, signed_short_at};
 ghost use Rattle.tiff_dirs.specs.Seen.{IfFound, one_seen, seen};
 ghost use Rattle.tiff_dirs.specs.Values.{number_in, rational_in};
 
 use byteorder::{BigEndian, ByteOrder, LittleEndian};
 use std::marker::{Model, PhantomData};
+
+#[cfg(test)]
+mod tests;
 
 /// A file's byte order.
 #[derive(Clone, Copy, Debug, PartialEq, Eq)]
@@ -49,6 +52,24 @@ impl Order {
             Order::Little => LittleEndian::read_u32(&bytes[place..]),
             Order::Big => BigEndian::read_u32(&bytes[place..]),
         }
+    }
+}
+
+impl Order {
+    // The 16-bit number in two's complement at a place.
+    fn signed_short(self, bytes: &[u8], place: usize) -> i64
+        requires { place + 2 ≤ length bytes.now }
+        ensures { result ≡ signed_short_at self bytes.now place }
+    {
+        self.short(bytes, place).cast_signed().into()
+    }
+
+    // The 32-bit number in two's complement at a place.
+    fn signed_long(self, bytes: &[u8], place: usize) -> i64
+        requires { place + 4 ≤ length bytes.now }
+        ensures { result ≡ signed_long_at self bytes.now place }
+    {
+        self.long(bytes, place).cast_signed().into()
     }
 }
 
@@ -107,9 +128,9 @@ pub enum EntryFault {
 }
 
 /// An entry of a directory, with the bytes of its value as they stand in the file.
-#[derive(Clone, Copy, Debug)]
+#[derive(Clone, Copy, Debug, PartialEq, Eq)]
 pub struct Entry<'a> {
-    /// What the entry tells.
+    /// Its tag, which says what it tells.
     pub tag: u16,
     /// The type of its numbers, 1 to 13.
     pub kind: u16,
@@ -271,10 +292,7 @@ impl<'a> Tiff<'a> {
         let Some(place) = self.entry_place(dir.at, tag) else {
             return Ok(None);
         };
-        match self.entry(place) {
-            Ok(entry) => Ok(Some(entry)),
-            Err(fault) => Err(fault),
-        }
+        self.entry(place).map(Some)
     }
 
     // Where the first entry with the tag begins, in the directory at an offset.
@@ -282,7 +300,9 @@ impl<'a> Tiff<'a> {
         ensures place { option_map (slot_at self.now) result ≡ find (λ slot. slot.tag == tag) (entries self.now at) }
         ensures whole { IfSome result (λ place. place + 12 ≤ length self.now) }
     {
-        let count = entry_count(self.order, self.bytes, at)?;
+        let Some(count) = entry_count(self.order, self.bytes, at) else {
+            return None;
+        };
         let entries = at as usize + 2;
         for i in 0..usize::from(count) {
             let place = entries + ENTRY_LEN * i;
@@ -353,24 +373,25 @@ impl<'a> Tiff<'a> {
 
     /// Number `i` of the entry's value, counted from 0, as numerator and denominator. A whole number has the
     /// denominator 1.
+    #[tactic(auto, unfolding(crate::specs::Values::rational_in))]
     pub fn rational(&self, e: &Entry<'_>, i: u32) -> (i64, i64)
         requires index { i < e.now.count }
         requires kind { IsTrue (is_fraction e.now.kind) }
         requires room { e.now.count * size_of e.now.kind ≤ length e.now.value.now }
         ensures { result ≡ rational_in (order_of self.now) e.now.kind e.now.value.now i }
     {
-        let place = i as usize * kind_size(e.kind);
+        let place = i as usize;
         match e.kind {
             RATIONAL => (
-                self.order.long(e.value, place).into(),
-                self.order.long(e.value, place + 4).into(),
+                self.order.long(e.value, 8 * place).into(),
+                self.order.long(e.value, 8 * place + 4).into(),
             ),
+            SSHORT => (self.order.signed_short(e.value, 2 * place), 1),
+            SLONG => (self.order.signed_long(e.value, 4 * place), 1),
             SRATIONAL => (
-                self.order.long(e.value, place).cast_signed().into(),
-                self.order.long(e.value, place + 4).cast_signed().into(),
+                self.order.signed_long(e.value, 8 * place),
+                self.order.signed_long(e.value, 8 * place + 4),
             ),
-            SLONG => (self.order.long(e.value, place).cast_signed().into(), 1),
-            SSHORT => (self.order.short(e.value, place).cast_signed().into(), 1),
             _ => (self.number(e, i).into(), 1),
         }
     }
