@@ -1,5 +1,5 @@
 -- The command of a script line, which is this project's own.
-use Rattle.std.specs.Prelude.{ℕ, List, [], ◌∷◌, Option, Some, None, Result, Ok, Err, ok_or, ◌&&◌, if◌then◌else◌, nat_lt, length, codes, bytes_eq}
+use Rattle.std.specs.Prelude.{ℕ, List, [], ◌∷◌, Option, Some, None, Result, Err, ok_or, ◌&&◌, if◌then◌else◌, nat_lt, length, codes, bytes_eq}
 use Rattle.dev_settings.specs.declared.command.Format.{Format}
 use Rattle.dev_settings.specs.declared.command.Format.TheVariants.{Ppm}
 use Rattle.dev_settings.specs.declared.command.Command.{Command}

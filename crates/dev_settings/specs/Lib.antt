@@ -1,3 +1,4 @@
 pub mod Commands
+pub mod LineLaws
 pub mod Lines
 pub mod Words

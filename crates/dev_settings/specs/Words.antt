@@ -1,5 +1,5 @@
 -- The words of a script line and the numbers among them, which are this project's own.
-use Rattle.std.specs.Prelude.{ℕ, ◌^◌, List, Option, Some, None, ◌&&◌, if◌then◌else◌, ◌==◌, nat_lt, nat_le, length, filter}
+use Rattle.std.specs.Prelude.{ℕ, ◌^◌, List, Bool, Option, Some, None, ◌&&◌, if◌then◌else◌, ◌==◌, nat_lt, nat_le, length, filter}
 use Rattle.std.specs.Char.{is_ascii_digit}
 use Rattle.std.specs.List.{list_all, slice_split}
 use Rattle.std.specs.Str.Parse.{digits_value}
@@ -9,8 +9,10 @@ use Rattle.std.specs.Str.Parse.{digits_value}
 abbrev pub words : List ℕ → List (List ℕ)
 words line = filter (λ piece. nat_lt 0 (length piece)) (slice_split (λ byte. byte == 32) line)
 
--- the number that 1 to 10 decimal digits write, where it is below 2^32
+-- the word is 1 to 10 decimal digits
+abbrev pub is_numeral : List ℕ → Bool
+is_numeral word = nat_lt 0 (length word) && nat_le (length word) 10 && list_all is_ascii_digit word
+
+-- the number that such a word writes, where it is below 2^32
 abbrev pub number_of : List ℕ → Option ℕ
-number_of word =
-    if nat_lt 0 (length word) && nat_le (length word) 10 && list_all is_ascii_digit word && nat_lt (digits_value 10 word) (2 ^ 32)
-    then Some (digits_value 10 word) else None
+number_of word = if is_numeral word && nat_lt (digits_value 10 word) (2 ^ 32) then Some (digits_value 10 word) else None

@@ -1,8 +1,10 @@
 //! The words of a line, and the numbers among them.
 
-ghost use Rattle.std.specs.Prelude.{◌≡◌, ◌==◌, ◌≤◌, ◌∷◌, [], not, length, position, MatchOption};
-ghost use Rattle.std.specs.Str.Parse.{AllDigits, digits_value};
-ghost use Rattle.dev_settings.specs.Words.{words, number_of};
+ghost use Rattle.std.specs.Prelude.{◌≡◌, ◌==◌, ◌∷◌, [], not, IsTrue, position, MatchOption};
+ghost use Rattle.std.specs.Char.{is_ascii_digit};
+ghost use Rattle.std.specs.List.{list_all};
+ghost use Rattle.std.specs.Str.Parse.{digits_value};
+ghost use Rattle.dev_settings.specs.Words.{words, is_numeral, number_of};
 
 /// A number has at most this many digits.
 const MAX_DIGITS: usize = 10;
@@ -31,24 +33,33 @@ fn first_space(line: &[u8]) -> Option<usize>
     line.iter().position(|byte| *byte == b' ')
 }
 
-/// The number that a word writes, where it has 1 to 10 decimal digits and the number fits 32 bits.
+/// The number that a word writes, where it is 1 to 10 decimal digits and the number fits 32 bits.
 pub(crate) fn number(word: &[u8]) -> Option<u32>
     ensures { result ≡ number_of word.now }
 {
-    let is_numeral = !word.is_empty()
-        && word.len() <= MAX_DIGITS
-        && word.iter().all(|byte| byte.is_ascii_digit());
-    if is_numeral {
-        u32::try_from(value(word)).ok()
-    } else {
-        None
+    if !is_numeral(word) {
+        return None;
     }
+    u32::try_from(value(word)).ok()
 }
 
-/// The number that at most ten digits write.
+/// Whether a word is 1 to 10 decimal digits.
+fn is_numeral(word: &[u8]) -> bool
+    ensures { result ≡ is_numeral word.now }
+{
+    !word.is_empty() && word.len() <= MAX_DIGITS && all_digits(word)
+}
+
+/// Whether each byte of a word is a decimal digit.
+fn all_digits(word: &[u8]) -> bool
+    ensures { result ≡ list_all is_ascii_digit word.now }
+{
+    word.iter().all(|byte| byte.is_ascii_digit())
+}
+
+/// The number that 1 to 10 decimal digits write.
 fn value(digits: &[u8]) -> u64
-    requires all { AllDigits 10 digits.now }
-    requires short { length digits.now ≤ 10 }
+    requires { IsTrue (is_numeral digits.now) }
     ensures { result ≡ digits_value 10 digits.now }
 {
     let mut value = 0;

@@ -1,6 +1,6 @@
 -- Images as bytes: the binary portable pixmap (Netpbm's PPM, `P6`), and this project's own reply line.
-use Rattle.std.specs.Prelude.{ℕ, List, [], ◌∷◌, ◌++◌, codes, decimal, w16}
-use Rattle.std.specs.Int.{to_be_bytes}
+use Rattle.std.specs.Prelude.{ℕ, List, ◌++◌, codes, decimal}
+use Rattle.std.specs.Int.{to_be_bytes, w16}
 use Rattle.std.specs.List.{flat_map}
 use Rattle.dev_settings.specs.declared.command.Format.{Format}
 use Rattle.dev_settings.specs.declared.command.Format.TheVariants.{Ppm}

@@ -1,7 +1,7 @@
 //! Images as bytes, and the line that goes before the bytes of an image.
 #![tactic(auto)]
 
-ghost use Rattle.std.specs.Prelude.{◌≡◌, ◌≢◌, ◌+◌, ◌*◌, ◌≤◌, ◌++◌, length, take, drop};
+ghost use Rattle.std.specs.Prelude.{◌≡◌, ◌+◌, ◌*◌, ◌≤◌, ◌++◌, length, take, drop};
 ghost use Rattle.image_out.specs.Image.{ppm_head_of, reply_head_of, pixels_of};
 
 use dev_settings::Format;
@@ -12,8 +12,6 @@ pub const HEAD_BYTES: usize = 32;
 
 /// Writes the head of a binary portable pixmap of `w` columns and `h` rows, and gives its length.
 pub fn ppm_head(w: u32, h: u32, out: &mut [u8; 32]) -> usize
-    requires columns { w ≤ 8192 }
-    requires rows { h ≤ 8192 }
     ensures within { result ≤ 32 }
     ensures head { take result out.new ≡ ppm_head_of w h }
     ensures rest { drop result out.new ≡ drop result out.old }
@@ -56,12 +54,12 @@ pub fn pixel_bytes(samples: &[u16], format: Format, out: &mut [u8])
     ensures { out.new ≡ pixels_of format samples.now }
 {
     match format {
-        Format::Ppm => high_first(samples, out),
+        Format::Ppm => big_endian(samples, out),
     }
 }
 
 /// Writes two bytes to a sample, the greater first.
-fn high_first(samples: &[u16], out: &mut [u8])
+fn big_endian(samples: &[u16], out: &mut [u8])
     requires { length out.old ≡ 2 * length samples.now }
     ensures { out.new ≡ pixels_of Format.Ppm samples.now }
 {
