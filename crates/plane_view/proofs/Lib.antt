@@ -1,1 +1,2 @@
+pub mod Crops
 pub mod Samples

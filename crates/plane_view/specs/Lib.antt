@@ -1,2 +1,3 @@
 pub mod Plane
+pub mod Rectangles
 pub mod Reflect

@@ -1,0 +1,28 @@
+-- Rectangles of pixels: half-open, rows top to bottom, columns left to right. This is this project's own.
+use Rattle.std.specs.Prelude.{ℕ, ◌<◌, ◌≤◌}
+use Rattle.plane_view.specs.declared.Rect.{Rect}
+use Rattle.plane_view.specs.Plane.{Plane}
+
+-- the pixel at row r, column c is in the rectangle
+pub record HasPixel (rect : Rect) (r c : ℕ) : Type 0 where
+  pub top : rect.top ≤ r
+  pub bottom : r < rect.bottom
+  pub left : rect.left ≤ c
+  pub right : c < rect.right
+
+-- the edges of the first rectangle are in order, and lie between those of the second
+pub record LiesIn (inner outer : Rect) : Type 0 where
+  pub top : outer.top ≤ inner.top
+  pub rows : inner.top ≤ inner.bottom
+  pub bottom : inner.bottom ≤ outer.bottom
+  pub left : outer.left ≤ inner.left
+  pub cols : inner.left ≤ inner.right
+  pub right : inner.right ≤ outer.right
+
+-- the rectangle of a plane of this many rows and columns
+abbrev pub whole_rect : (rows cols : ℕ) → Rect
+whole_rect rows cols = record { top = 0; left = 0; bottom = rows; right = cols }
+
+-- the rectangle of all pixels of a plane
+abbrev pub rect_of : Plane → Rect
+rect_of P = whole_rect P.rows P.cols
