@@ -1,2 +1,4 @@
+mod Examples
 pub mod FirstEntry
+pub mod OpenLemmas
 pub mod ValuesLemmas

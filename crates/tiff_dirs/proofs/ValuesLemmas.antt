@@ -1,13 +1,13 @@
 -- Where the numbers of a value stand in its bytes.
-use Rattle.std.proofs.Common.{◌≡◌, ℕ, ◌+◌, ◌*◌, ◌<◌, ◌≤◌, Bool, true, false, IsTrue, List, drop, slice_index, ◌⊎◌, inl, inr, refl, arith}
+use Rattle.std.proofs.Common.{◌≡◌, ℕ, ◌+◌, ◌*◌, ◌<◌, ◌≤◌, IsTrue, List, drop, slice_index, ◌⊎◌, inl, inr, refl, arith}
 use Rattle.std.proofs.lemmas.List.{get_or-drop}
 use Rattle.std.proofs.lemmas.Bool.Decides.{nat_tests}
 use Rattle.std.proofs.Math.Nat.{mul-le-mul_right}
 use Rattle.tiff_dirs.specs.declared.Order.{Order}
 use Rattle.tiff_dirs.specs.declared.Order.TheVariants.{Big, Little}
-use Rattle.tiff_dirs.specs.Kinds.{is_fraction, is_whole, size_of}
+use Rattle.tiff_dirs.specs.Kinds.{is_whole, size_of}
 use Rattle.tiff_dirs.specs.Numbers.{long_at, number_at, short_at}
-use Rattle.tiff_dirs.specs.Values.{number_in, rational_in}
+use Rattle.tiff_dirs.specs.Values.{number_in}
 
 -- a value of a type whose numbers take a known size has room for each
 pub value_room : (kind count size i len : ℕ) → size_of kind ≡ size → i < count → count * size_of kind ≤ len → size * i + size ≤ len

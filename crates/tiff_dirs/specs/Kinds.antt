@@ -1,4 +1,4 @@
--- The field types (TIFF 6.0, section 2, "Types"; IFD is number 13 in Adobe's PageMaker notes to TIFF 6.0).
+-- The field types (TIFF 6.0, section 2, "Types"; number 13, IFD, is of Adobe's TIFF Technical Note 1, "TIFF Trees").
 use Rattle.std.specs.Prelude.{ℕ, ◌==◌, nat_lt, Bool, ◌||◌, ◌&&◌, List, [], ◌∷◌, slice_index}
 
 -- the bytes of one value of each type: none, BYTE, ASCII, SHORT, LONG, RATIONAL, SBYTE, UNDEFINED, SSHORT,

@@ -16,6 +16,8 @@ ghost use Rattle.tiff_dirs.specs.Seen.{IfFound, one_seen, seen};
 ghost use Rattle.tiff_dirs.specs.Values.{number_in, rational_in};
 
 use byteorder::{BigEndian, ByteOrder, LittleEndian};
+use std::error::Error;
+use std::fmt;
 use std::marker::{Model, PhantomData};
 
 #[cfg(test)]
@@ -82,6 +84,19 @@ pub enum TiffFault {
     BadDirectory { at: u32 },
 }
 
+impl fmt::Display for TiffFault {
+    fn fmt<W: fmt::Write>(&self, f: &mut fmt::Formatter<W>) -> fmt::Result {
+        match self {
+            TiffFault::NotTiff => write!(f, "the file has no TIFF header"),
+            TiffFault::BadDirectory { at } => {
+                write!(f, "the directory at {at} doesn't lie in the file")
+            }
+        }
+    }
+}
+
+impl Error for TiffFault {}
+
 /// A TIFF file: a header, and a directory 0 that lies in the file. Contracts see its bytes.
 #[derive(Drop)]
 pub struct Tiff<'a> {
@@ -126,6 +141,24 @@ pub enum EntryFault {
     /// The tag's first entry has none of the 13 types, or its value doesn't lie in the file.
     BadEntry { tag: u16 },
 }
+
+impl fmt::Display for EntryFault {
+    fn fmt<W: fmt::Write>(&self, f: &mut fmt::Formatter<W>) -> fmt::Result {
+        match self {
+            EntryFault::FloatTag { tag } => {
+                write!(f, "the entry of tag {tag} has floating point numbers")
+            }
+            EntryFault::BadEntry { tag } => {
+                write!(
+                    f,
+                    "the entry of tag {tag} has no known type, or a value outside the file"
+                )
+            }
+        }
+    }
+}
+
+impl Error for EntryFault {}
 
 /// An entry of a directory, with the bytes of its value as they stand in the file.
 #[derive(Clone, Copy, Debug, PartialEq, Eq)]
@@ -300,9 +333,7 @@ impl<'a> Tiff<'a> {
         ensures place { option_map (slot_at self.now) result ≡ find (λ slot. slot.tag == tag) (entries self.now at) }
         ensures whole { IfSome result (λ place. place + 12 ≤ length self.now) }
     {
-        let Some(count) = entry_count(self.order, self.bytes, at) else {
-            return None;
-        };
+        let count = entry_count(self.order, self.bytes, at)?;
         let entries = at as usize + 2;
         for i in 0..usize::from(count) {
             let place = entries + ENTRY_LEN * i;
@@ -326,7 +357,7 @@ impl<'a> Tiff<'a> {
         if kind == FLOAT || kind == DOUBLE {
             return Err(EntryFault::FloatTag { tag });
         }
-        if kind < BYTE || kind > IFD {
+        if !(BYTE..=IFD).contains(&kind) {
             return Err(EntryFault::BadEntry { tag });
         }
         let len = count as usize * kind_size(kind);

@@ -188,3 +188,29 @@ fn looks_into_a_further_directory(rt: HostRuntime) -> Result<(), Fail> {
     }
     Ok(())
 }
+
+#[test]
+fn tells_faults(rt: HostRuntime) -> Result<(), Fail> {
+    for (fault, want) in [
+        (TiffFault::NotTiff, "the file has no TIFF header"),
+        (
+            TiffFault::BadDirectory { at: 9 },
+            "the directory at 9 doesn't lie in the file",
+        ),
+    ] {
+        assert_eq!(rt; fault.to_string(rt.alloc())?.as_str(), want);
+    }
+    for (fault, want) in [
+        (
+            EntryFault::FloatTag { tag: 256 },
+            "the entry of tag 256 has floating point numbers",
+        ),
+        (
+            EntryFault::BadEntry { tag: 257 },
+            "the entry of tag 257 has no known type, or a value outside the file",
+        ),
+    ] {
+        assert_eq!(rt; fault.to_string(rt.alloc())?.as_str(), want);
+    }
+    Ok(())
+}

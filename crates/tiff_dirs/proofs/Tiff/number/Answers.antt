@@ -1,4 +1,4 @@
-use Rattle.std.proofs.Common.{sym, ◌∙◌, arith}
+use Rattle.std.proofs.Common.{◌∙◌, arith}
 use Rattle.tiff_dirs.proofs.ValuesLemmas.{number_in-byte, number_in-long, number_in-short, size_of-byte, size_of-long, size_of-short, value_room}
 use Rattle.tiff_dirs.proofs.Tiff.number.Goals as goal
 
