@@ -1,3 +1,4 @@
+pub mod Examples
 pub mod LineLemmas
 pub mod PlaceLemmas
 pub mod WordLemmas

@@ -15,9 +15,9 @@ is_end byte = eqb byte 10
 
 -- one byte more at the front, which ends a line where b is true
 first_step : (byte : ℕ) (bytes : List ℕ) (m n : ℕ) (b : Bool)
-  → (m < length bytes → lines_of bytes ≡ with_first (take m bytes) (lines_of (drop (m + 1) bytes)))
-  → cond (not b) (1 + m) 0 ≡ n → n < suc (length bytes)
-  → cond b (with_first [] (lines_of bytes)) (with_byte byte (lines_of bytes).complete (lines_of bytes).rest)
+    → (m < length bytes → lines_of bytes ≡ with_first (take m bytes) (lines_of (drop (m + 1) bytes)))
+    → cond (not b) (1 + m) 0 ≡ n → n < suc (length bytes)
+    → cond b (with_first [] (lines_of bytes)) (with_byte byte (lines_of bytes).complete (lines_of bytes).rest)
     ≡ with_first (take n (byte ∷ bytes)) (lines_of (drop (n + 1) (byte ∷ bytes)))
 first_step byte bytes m n true before e h = rw (← e)
 first_step byte bytes m n false before e h =
@@ -32,8 +32,8 @@ lines_of_first (byte ∷ bytes) n e h =
     first_step byte bytes (position_or_len is_end bytes) n (eqb byte 10) (lines_of_first bytes _ refl) e h
 
 none_step : (byte : ℕ) (bytes : List ℕ) (m : ℕ) (b : Bool)
-  → (length bytes ≤ m → lines_of bytes ≡ unended bytes) → suc (length bytes) ≤ cond (not b) (1 + m) 0
-  → cond b (with_first [] (lines_of bytes)) (with_byte byte (lines_of bytes).complete (lines_of bytes).rest) ≡ unended (byte ∷ bytes)
+    → (length bytes ≤ m → lines_of bytes ≡ unended bytes) → suc (length bytes) ≤ cond (not b) (1 + m) 0
+    → cond b (with_first [] (lines_of bytes)) (with_byte byte (lines_of bytes).complete (lines_of bytes).rest) ≡ unended (byte ∷ bytes)
 none_step byte bytes m true before h = absurd (omega arith)
 none_step byte bytes m false before h = with_byte_unended byte bytes _ (before (omega arith))
 
@@ -57,14 +57,14 @@ contains_no_end bytes e has =
 
 -- the line, its line feed and what follows
 pub parts_at_end : (bytes : List ℕ) (n : ℕ) → position is_end bytes ≡ Some n
-  → bytes ≡ take n bytes ++ 10 ∷ take (length bytes - (n + 1)) (drop (n + 1) bytes)
+    → bytes ≡ take n bytes ++ 10 ∷ take (length bytes - (n + 1)) (drop (n + 1) bytes)
 parts_at_end bytes n e =
     let found = position-Some is_end bytes n 10 e in
     let feed = eqb-true (get_or bytes n 10) 10 found.1 in
     rw (take_rest bytes (n + 1)) (sym (take-append-drop n bytes) ∙ ap (λ rest. take n bytes ++ rest) (drop_more bytes n 10 found.0 ∙ ap (λ byte. byte ∷ drop (n + 1) bytes) feed))
 
 pub lines_at_end : (bytes : List ℕ) (n : ℕ) → position is_end bytes ≡ Some n
-  → lines_of bytes ≡ with_first (take n bytes) (lines_of (take (length bytes - (n + 1)) (drop (n + 1) bytes)))
+    → lines_of bytes ≡ with_first (take n bytes) (lines_of (take (length bytes - (n + 1)) (drop (n + 1) bytes)))
 lines_at_end bytes n e =
     let place = position_some is_end bytes n e in
     rw (take_rest bytes (n + 1)) (lines_of_first bytes n place.0 place.1)

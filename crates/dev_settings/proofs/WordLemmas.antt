@@ -29,7 +29,7 @@ words_space : (byte : ℕ) (line : List ℕ) → eqb byte 32 ≡ true → words 
 words_space byte line e = rw e
 
 letter_step : (byte : ℕ) (line : List ℕ) (m : ℕ) (b : Bool) → eqb byte 32 ≡ b → words (drop m line) ≡ words line
-  → words (drop (cond (not (not b)) (1 + m) 0) (byte ∷ line)) ≡ words (byte ∷ line)
+    → words (drop (cond (not (not b)) (1 + m) 0) (byte ∷ line)) ≡ words (byte ∷ line)
 letter_step byte line m true e before = rw (one-add m) (before ∙ sym (words_space byte line e))
 letter_step byte line m false e before = refl
 
@@ -44,7 +44,7 @@ other_parts [] = []
 other_parts (byte ∷ line) = slice_split is_space line
 
 parts_step : (byte : ℕ) (line : List ℕ) (m : ℕ) (b : Bool) → slice_split is_space line ≡ take m line ∷ other_parts (drop m line)
-  → cond b ([] ∷ slice_split is_space line) (onto_first byte (slice_split is_space line))
+    → cond b ([] ∷ slice_split is_space line) (onto_first byte (slice_split is_space line))
     ≡ take (cond (not b) (1 + m) 0) (byte ∷ line) ∷ other_parts (drop (cond (not b) (1 + m) 0) (byte ∷ line))
 parts_step byte line m true before = refl
 parts_step byte line m false before = rw (one-add m, before)
@@ -55,7 +55,7 @@ parts_first [] = refl
 parts_first (byte ∷ line) = parts_step byte line (position_or_len is_space line) (eqb byte 32) (parts_first line)
 
 stop_step : (byte : ℕ) (line : List ℕ) (m : ℕ) (b : Bool) → eqb byte 32 ≡ b → eqb (get_or (drop m line) 0 32) 32 ≡ true
-  → eqb (get_or (drop (cond (not b) (1 + m) 0) (byte ∷ line)) 0 32) 32 ≡ true
+    → eqb (get_or (drop (cond (not b) (1 + m) 0) (byte ∷ line)) 0 32) 32 ≡ true
 stop_step byte line m true e before = e
 stop_step byte line m false e before = rw (one-add m) before
 
@@ -80,7 +80,7 @@ words_other (byte ∷ line) e = sym (words_space byte line e)
 
 -- a line that begins with a letter has a word up to the first space
 pub words_from_space : (byte : ℕ) (line : List ℕ) (m : ℕ) → eqb byte 32 ≡ false → position_or_len is_space line ≡ m
-  → words (byte ∷ line) ≡ (byte ∷ take m line) ∷ words (drop m line)
+    → words (byte ∷ line) ≡ (byte ∷ take m line) ∷ words (drop m line)
 words_from_space byte line m e place =
     let stops : eqb (get_or (drop m line) 0 32) 32 ≡ true = rw place at (stops_at_space line) in
     rw (e, parts_first line, place) (filter_word byte (take m line) (other_parts (drop m line)) ∙ ap (λ rest. (byte ∷ take m line) ∷ rest) (words_other (drop m line) stops))
@@ -125,7 +125,7 @@ value_fits word i n =
 
 -- one digit more
 pub value_step : (word : List ℕ) (i : ℕ) → IsNumeral word → i < length word
-  → (48 ≤ get_or word i 0) × (digits_value 10 (take i word) * 10 + (get_or word i 0 - 48) ≡ digits_value 10 (take (i + 1) word))
+    → (48 ≤ get_or word i 0) × (digits_value 10 (take i word) * 10 + (get_or word i 0 - 48) ≡ digits_value 10 (take (i + 1) word))
 value_step word i n h =
     let range = digit_at word i n.digits h in
     let digit = digit_value_digit (get_or word i 0) range in
@@ -140,7 +140,7 @@ words_none line e =
 
 -- what begins with a letter, by its first byte
 words_of_front : (line : List ℕ) → 0 < length line → is_letter (get_or line 0 0) ≡ true
-  → words line ≡ take (position_or_len is_space line) line ∷ words (drop (position_or_len is_space line) line)
+    → words line ≡ take (position_or_len is_space line) line ∷ words (drop (position_or_len is_space line) line)
 words_of_front [] h e = absurd (omega arith)
 words_of_front (byte ∷ line) h e =
     let letter : eqb byte 32 ≡ false = not_true (eqb byte 32) e in
@@ -149,7 +149,7 @@ words_of_front (byte ∷ line) h e =
 
 -- the first word is what stands from the first letter to the space after it, or to the end
 pub words_first : (line : List ℕ) (start : ℕ) → position is_letter line ≡ Some start
-  → words line ≡ take (position_or_len is_space (drop start line)) (drop start line) ∷ words (drop (position_or_len is_space (drop start line)) (drop start line))
+    → words line ≡ take (position_or_len is_space (drop start line)) (drop start line) ∷ words (drop (position_or_len is_space (drop start line)) (drop start line))
 words_first line start e =
     let place = position_some is_letter line start e in
     let letter = (position-Some is_letter line start 0 e).1 in

@@ -44,13 +44,13 @@ followed_by front bytes = record {
 }
 
 append_byte : (byte : ℕ) (lines : List (List ℕ)) (rest bytes : List ℕ) (whole : Lines) → eqb byte 10 ≡ false
-  → whole ≡ followed_by (record { complete = lines; rest = rest }) bytes
-  → with_byte byte whole.complete whole.rest ≡ followed_by (with_byte byte lines rest) bytes
+    → whole ≡ followed_by (record { complete = lines; rest = rest }) bytes
+    → with_byte byte whole.complete whole.rest ≡ followed_by (with_byte byte lines rest) bytes
 append_byte byte [] rest bytes whole e before = rw (before, e)
 append_byte byte (line ∷ lines) rest bytes whole e before = rw before
 
 append_step : (byte : ℕ) (front whole : Lines) (bytes : List ℕ) (b : Bool) → eqb byte 10 ≡ b → whole ≡ followed_by front bytes
-  → cond b (with_first [] whole) (with_byte byte whole.complete whole.rest)
+    → cond b (with_first [] whole) (with_byte byte whole.complete whole.rest)
     ≡ followed_by (cond b (with_first [] front) (with_byte byte front.complete front.rest)) bytes
 append_step byte front whole bytes true e before = ap (with_first []) before
 append_step byte front whole bytes false e before = append_byte byte front.complete front.rest bytes whole e before

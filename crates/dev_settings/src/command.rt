@@ -66,7 +66,7 @@ impl<'a> RegionWords<'a> {
     fn read(text: &'a [u8]) -> Option<Self>
         ensures { MatchOption result (length (words text.now) ≢ 5)
             (λ r. words text.now
-                ≡ r.x.now ∷ r.y.now ∷ r.w.now ∷ r.h.now ∷ r.format.now ∷ []) }
+            ≡ r.x.now ∷ r.y.now ∷ r.w.now ∷ r.h.now ∷ r.format.now ∷ []) }
     {
         let (x, rest) = first_word(text)?;
         let (y, rest) = first_word(rest)?;

@@ -7,3 +7,6 @@ mod word;
 
 pub use command::{Command, Format, LineFault, MAX_LINE_BYTES};
 pub use line::split_line;
+
+#[cfg(test)]
+mod tests;

@@ -7,12 +7,10 @@ ghost use Rattle.image_out.specs.Image.{ppm_head_of, reply_head_of, pixels_of};
 use dev_settings::Format;
 use itoa::Buffer;
 
-/// The most bytes that a head or a reply line takes.
-pub const HEAD_BYTES: usize = 32;
-
 /// Writes the head of a binary portable pixmap of `w` columns and `h` rows, and gives its length.
 pub fn ppm_head(w: u32, h: u32, out: &mut [u8; 32]) -> usize
     ensures within { result ≤ 32 }
+    ensures used { result ≡ length (ppm_head_of w h) }
     ensures head { take result out.new ≡ ppm_head_of w h }
     ensures rest { drop result out.new ≡ drop result out.old }
 {
@@ -27,6 +25,7 @@ pub fn ppm_head(w: u32, h: u32, out: &mut [u8; 32]) -> usize
 /// Writes the line before an image of `n` bytes, and gives its length.
 pub fn reply_head(n: u64, out: &mut [u8; 32]) -> usize
     ensures within { result ≤ 32 }
+    ensures used { result ≡ length (reply_head_of n) }
     ensures head { take result out.new ≡ reply_head_of n }
     ensures rest { drop result out.new ≡ drop result out.old }
 {
@@ -68,3 +67,6 @@ fn big_endian(samples: &[u16], out: &mut [u8])
         out[2 * i + 1] = (*sample & 0xff) as u8;
     }
 }
+
+#[cfg(test)]
+mod tests;

@@ -14,5 +14,5 @@ returns c =
     let start = c.in_ok-line.field-0 in
     let rest = take_rest line start in
     let place : c.unwrap_or-end.result ≡ position_or_len is_space (drop start line) =
-      c.unwrap_or-end.ensures ∙ rw (c.first_space.ensures, rest) (unwrap_or-position is_space (drop start line)) in
+    c.unwrap_or-end.ensures ∙ rw (c.first_space.ensures, rest) (unwrap_or-position is_space (drop start line)) in
     rw (c.split_at.ensures.front, c.split_at.ensures.back, rest, place) (words_first line start (sym c.in_ok-line.ensures))
