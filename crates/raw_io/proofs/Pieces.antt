@@ -1,8 +1,8 @@
 -- Several calls one after another: counts that rise, bytes that are taken, contents that are read, bytes that are appended.
-use Rattle.std.proofs.Common.{◌≡◌, ℕ, ◌+◌, ◌-◌, ◌<◌, ◌≤◌, List, [], ◌++◌, length, take, drop, Option, Some, None, refl, sym, ◌∙◌, ap, subst, inl, inr, append_assoc, arith}
+use Rattle.std.proofs.Common.{◌≡◌, ℕ, ◌+◌, ◌-◌, ◌<◌, ◌≤◌, List, [], ◌++◌, length, take, drop, Option, Some, None, refl, sym, ◌∙◌, ap, subst, inl, inr, append_assoc, length-take, take-append-drop, min, arith}
 use Rattle.std.specs.Option.{IfSome}
 use Rattle.std.proofs.Math.Seq.{take-add}
-use Rattle.std.proofs.lemmas.List.{take_all, nil_from_length}
+use Rattle.std.proofs.lemmas.List.{drop-drop, take_all, take_at, nil_from_length}
 use Rattle.raw_io.specs.Outside.{Rises, Takes, ReadsAt, Appends}
 
 pub rises_from : (a b c : ℕ) → a ≤ b → Rises b c → Rises a c
@@ -83,3 +83,12 @@ appends_more stands_for a b c bytes rest m n is first then list was =
     let P : List ℕ → Type 0 = λ t. stands_for c t in
     let joined : take m bytes ++ take n rest ≡ take (m + n) bytes = ap (λ (t : List ℕ). take m bytes ++ take n t) is ∙ sym (take-add m n bytes) in
     subst P (append_assoc list (take m bytes) (take n rest) ∙ ap (λ (t : List ℕ). list ++ t) joined) (then (list ++ take m bytes) (first list was))
+
+-- what a source in memory has left begins with the bytes that were copied from its front
+pub copied_front : (bytes left from into old : List ℕ) (taken count : ℕ) → left ≡ drop taken bytes → from ≡ drop taken bytes → count ≡ min (length from) (length old) → into ≡ take count from ++ drop count old → left ≡ take count into ++ drop (taken + count) bytes
+copied_front bytes left from into old taken count is same counts copied =
+    let n : length (take count from) ≡ count = omega (arith, length-take count from) in
+    let front : take count into ≡ take count from = ap (λ (t : List ℕ). take count t) copied ∙ take_at (take count from) (drop count old) count n in
+    is ∙ sym same ∙ sym (take-append-drop count from)
+    ∙ ap (λ (t : List ℕ). take count from ++ t) (ap (λ (t : List ℕ). drop count t) same ∙ drop-drop count taken bytes)
+    ∙ ap (λ (t : List ℕ). t ++ drop (taken + count) bytes) (sym front)
