@@ -1,10 +1,12 @@
 //! The outside: files by name, a source that is read once, and a sink; and whole reads and writes over them.
 #![tactic(auto)]
 
+mod host;
 mod memory;
 mod traits;
 mod whole;
 
+pub use host::{HostFiles, StdSink, StdSource};
 pub use memory::{MemSink, MemSource};
 pub use traits::{Failed, Files, Sink, Source};
 pub use whole::{ReadFault, WriteFault, read_all, read_source, write_all};
