@@ -20,6 +20,10 @@ abbrev pub Takes : Option (List ℕ) → Option (List ℕ) → List ℕ → Type
 Takes None left taken = ⊤
 Takes (Some before) left taken = (rest : List ℕ) × (before ≡ taken ++ rest) × (left ≡ Some rest)
 
+-- Some of the told bytes that are left were taken from their front, no more than this many.
+abbrev pub TakesAtMost : ℕ → Option (List ℕ) → Option (List ℕ) → Type 0
+TakesAtMost most before after = (taken : List ℕ) × Takes before after taken × (length taken ≤ most)
+
 -- A sink stands for each list that it stood for, followed by these bytes.
 abbrev pub Appends : {S : Type 0} → (S → List ℕ → Type 0) → S → S → List ℕ → Type 0
 Appends stands_for old new bytes = (list : List ℕ) → stands_for old list → stands_for new (list ++ bytes)
