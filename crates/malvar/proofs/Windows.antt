@@ -1,7 +1,7 @@
 -- A row's sample, from five rows of a plane, is the plane's demosaiced sample.
 use Rattle.std.proofs.Common.{◌≡◌, ℕ, ◌+◌, ◌%◌, ◌<◌, ◌≤◌, cond, eqb, List, pos, negsuc, ℤ, ◌+ℤ◌, ◌≤ℤ◌, refl, sym, ◌∙◌, ap, inl, inr, arith}
 use Rattle.std.proofs.lemmas.Bool.Decides.{nat_tests}
-use Rattle.std.proofs.lemmas.Bool.{lt-ltb, cases_lt}
+use Rattle.std.proofs.lemmas.Bool.{cases_lt}
 use Rattle.std.proofs.lemmas.Int.{ints}
 use Rattle.plane_view.specs.Plane.{Plane, sample}
 use Rattle.plane_view.specs.Reflect.{reflected}
@@ -12,10 +12,7 @@ use Rattle.malvar.specs.Rows.{IsWindowOf, around_by, around_at, row_sample}
 use Rattle.malvar.specs.declared.filters.Around.{Around}
 use Rattle.malvar.specs.declared.filters.Site.{Site}
 use Rattle.malvar.specs.declared.rows.Window.{Window}
-
--- what is inside stands for itself
-pub reflected_inside : (n i : ℕ) → i < n → reflected n (pos i) ≡ i
-reflected_inside n i h = rw (lt-ltb i n h) refl
+use Rattle.malvar.proofs.Inside.{reflected_inside}
 
 -- what is up to 2 outside stands for something inside
 pub reflected_below : (n : ℕ) (i : ℤ) → 4 ≤ n → negsuc 1 ≤ℤ i → i ≤ℤ pos (n + 1) → reflected n i < n

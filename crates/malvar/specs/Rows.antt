@@ -1,5 +1,5 @@
 -- A row of pixels with the two rows above and below it: this project's own.
-use Rattle.std.specs.Prelude.{◌≡◌, ℕ, ◌+◌, ◌*◌, ◌%◌, ◌<◌, ◌≤◌, nat_eq, if◌then◌else◌, ℤ, pos, negsuc, ◌+ℤ◌, List, length, slice_index}
+use Rattle.std.specs.Prelude.{◌≡◌, ℕ, ◌+◌, ◌*◌, ◌%◌, ◌<◌, ◌≤◌, nat_eq, if◌then◌else◌, ℤ, pos, negsuc, ◌+ℤ◌, List, length, slice_index, slice_set}
 use Rattle.plane_view.specs.Plane.{Plane, sample}
 use Rattle.plane_view.specs.Reflect.{reflected}
 use Rattle.malvar.specs.Demosaic.{malvar}
@@ -32,8 +32,8 @@ abbrev pub around_at : Window → ℕ → ℕ → Around
 around_at w n c =
     around_by w (reflected n (pos c +ℤ negsuc 1)) (reflected n (pos c +ℤ negsuc 0)) c (reflected n (pos c +ℤ pos 1)) (reflected n (pos c +ℤ pos 2))
 
--- the sample of a wanted colour at column c, where the even columns are sites of one kind and the odd ones of another
-abbrev pub row_sample : Site → Site → Window → ℕ → ℕ → ℕ → ℕ
+-- the sample of a wanted colour at column c of n, where the even columns are sites of one kind and the odd ones of another
+abbrev pub row_sample : (even odd : Site) → Window → ℕ → ℕ → ℕ → ℕ
 row_sample even odd w n c wanted =
     let site = if nat_eq (c % 2) 0 then even else odd in
     sample_by malvar (own_colour site) (next_colour site) (around_at w n c) wanted
@@ -41,6 +41,11 @@ row_sample even odd w n c wanted =
 -- the pixels from one column up to another have these samples
 abbrev pub HasPixels : (ℕ → ℕ → ℕ) → List ℕ → ℕ → ℕ → Type 0
 HasPixels f xs from to = (c p : ℕ) → from ≤ c → c < to → p < 3 → slice_index xs (c * 3 + p) ≡ f c p
+
+-- a row whose pixel at column c is written
+abbrev pub with_pixel : List ℕ → ℕ → List ℕ → List ℕ
+with_pixel xs c pixel =
+    slice_set (slice_set (slice_set xs (c * 3) (slice_index pixel 0)) (c * 3 + 1) (slice_index pixel 1)) (c * 3 + 2) (slice_index pixel 2)
 
 -- the pixels below a column are the same
 abbrev pub SameBelow : List ℕ → List ℕ → ℕ → Type 0

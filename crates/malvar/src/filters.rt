@@ -28,6 +28,15 @@ pub(crate) enum Site {
     Blue,
 }
 
+/// The two kinds of sites in a row, that of the even columns first.
+#[derive(Clone, Copy)]
+pub(crate) enum RowSites {
+    RedGreen,
+    GreenRed,
+    GreenBlue,
+    BlueGreen,
+}
+
 /// The difference of two sums of sixteenths as a sample.
 #[inline(always)]
 fn scaled(plus: u32, minus: u32) -> u16
@@ -90,15 +99,13 @@ impl Around {
 }
 
 impl Site {
-    ghost use Rattle.malvar.specs.Around.{IsAround, sample_by, own_colour, next_colour};
+    ghost use Rattle.malvar.specs.Around.{IsAround, IsPixel, sample_by, own_colour, next_colour};
 
     /// Red, green and blue of a pixel.
     #[inline(always)]
     pub(crate) fn pixel(self, around: Around) -> [u16; 3]
         requires { IsAround around }
-        ensures red { slice_index result 0 ≡ sample_by malvar (own_colour self) (next_colour self) around 0 }
-        ensures green { slice_index result 1 ≡ sample_by malvar (own_colour self) (next_colour self) around 1 }
-        ensures blue { slice_index result 2 ≡ sample_by malvar (own_colour self) (next_colour self) around 2 }
+        ensures { IsPixel (sample_by malvar (own_colour self) (next_colour self) around) result }
     {
         let own = around.centre as u16;
         match self {
@@ -106,6 +113,39 @@ impl Site {
             Site::GreenByRed => [around.in_row(), own, around.in_column()],
             Site::GreenByBlue => [around.in_column(), own, around.in_row()],
             Site::Blue => [around.opposite(), around.green(), own],
+        }
+    }
+}
+
+impl RowSites {
+    ghost use Rattle.malvar.specs.Around.{even_site, odd_site, own_colour, next_colour};
+    ghost use Rattle.malvar.specs.Pattern.{IsBeside};
+
+    /// The row that begins with these two colours.
+    pub(crate) fn new(first: u8, second: u8) -> Self
+        requires { IsBeside first second }
+        ensures even { own_colour (even_site result) ≡ first }
+        ensures even_next { next_colour (even_site result) ≡ second }
+        ensures odd { own_colour (odd_site result) ≡ second }
+        ensures odd_next { next_colour (odd_site result) ≡ first }
+    {
+        match (first, second) {
+            (0, _) => RowSites::RedGreen,
+            (2, _) => RowSites::BlueGreen,
+            (_, 0) => RowSites::GreenRed,
+            _ => RowSites::GreenBlue,
+        }
+    }
+
+    /// The sites of the even and of the odd columns.
+    pub(crate) fn pair(self) -> (Site, Site)
+        ensures { result ≡ (even_site self, odd_site self) }
+    {
+        match self {
+            RowSites::RedGreen => (Site::Red, Site::GreenByRed),
+            RowSites::GreenRed => (Site::GreenByRed, Site::Red),
+            RowSites::GreenBlue => (Site::GreenByBlue, Site::Blue),
+            RowSites::BlueGreen => (Site::Blue, Site::GreenByBlue),
         }
     }
 }

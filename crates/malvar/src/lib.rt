@@ -6,28 +6,13 @@ mod rows;
 
 ghost use Rattle.std.specs.Prelude.{◌≡◌, ℕ, ◌+◌, ◌*◌, ◌≤◌, ◌<◌, pos, negsuc, ◌+ℤ◌, ◌≤ℤ◌, length, slice_index};
 ghost use Rattle.plane_view.specs.Plane.{Plane};
-ghost use Rattle.malvar.specs.Pattern.{IsBayer, IsBeside, colour_at};
+ghost use Rattle.malvar.specs.Pattern.{IsBayer};
 ghost use Rattle.malvar.specs.Demosaic.{malvar, demosaiced, demosaiced_at};
-ghost use Rattle.malvar.specs.Around.{own_colour, next_colour};
 ghost use Rattle.malvar.specs.Rows.{HasPixels, IsRow, IsWindow, IsWindowOf, single};
 
-use filters::Site;
+use filters::RowSites;
 use plane_view::reflect;
-use rows::{Window, fill_reflecting};
-
-/// The site of colour `own`, with colour `next` on its left and right.
-fn site_of(own: u8, next: u8) -> Site
-    requires { IsBeside own next }
-    ensures own { own_colour result ≡ own }
-    ensures next { next_colour result ≡ next }
-{
-    match (own, next) {
-        (0, _) => Site::Red,
-        (2, _) => Site::Blue,
-        (_, 0) => Site::GreenByRed,
-        _ => Site::GreenByBlue,
-    }
-}
+use rows::{Window, fill};
 
 /// Row `r` of a plane, reflected if it is outside.
 fn row_of(plane: &[u16], rows: u32, cols: u32, r: i64) -> &[u16]
@@ -73,10 +58,9 @@ fn fill_row(plane: &[u16], rows: u32, cols: u32, cfa: [u8; 4], r: u32, out: &mut
     ensures { HasPixels (demosaiced_at malvar cfa (single rows cols plane.now) r) out.new 0 cols }
 {
     let first = r as usize % 2 * 2;
-    let even = site_of(cfa[first], cfa[first + 1]);
-    let odd = site_of(cfa[first + 1], cfa[first]);
+    let sites = RowSites::new(cfa[first], cfa[first + 1]);
     let window = window_of(plane, rows, cols, r);
-    fill_reflecting(&window, even, odd, 0, cols as usize, out);
+    fill(&window, sites, out);
 }
 
 /// Red, green and blue of each pixel of a plane of `rows` by `cols` samples under the pattern `cfa`. Rows and columns

@@ -2,7 +2,7 @@
 
 ghost use Rattle.std.specs.Prelude.{◌≡◌, ℕ, ◌+◌, ◌*◌, ◌<◌, ◌≤◌, slice_index, slice_set, length};
 
-use crate::filters::{Around, Site};
+use crate::filters::{Around, RowSites, Site};
 use plane_view::reflect;
 
 /// A row of samples, and the two rows above and below it. All are equally long.
@@ -83,7 +83,7 @@ impl Window<'_> {
 #[inline(always)]
 fn put(out: &mut [u16], c: usize, pixel: [u16; 3])
     requires { c * 3 + 3 ≤ length out.old }
-    ensures { out.new ≡ slice_set (slice_set (slice_set out.old (c * 3) (slice_index pixel 0)) (c * 3 + 1) (slice_index pixel 1)) (c * 3 + 2) (slice_index pixel 2) }
+    ensures { out.new ≡ with_pixel out.old c pixel }
 {
     let at = c * 3;
     out[at] = pixel[0];
@@ -91,18 +91,12 @@ fn put(out: &mut [u16], c: usize, pixel: [u16; 3])
     out[at + 2] = pixel[2];
 }
 
-ghost use Rattle.malvar.specs.Rows.{IsWindow, row_sample, HasPixels, SameBelow};
+ghost use Rattle.malvar.specs.Rows.{IsWindow, row_sample, with_pixel, HasPixels, SameBelow};
+ghost use Rattle.malvar.specs.Around.{even_site, odd_site};
 
 /// Develops the columns from `from` up to `to`, reflecting columns outside the rows. The even columns are sites of one
 /// kind, and the odd columns of another.
-pub(crate) fn fill_reflecting(
-    window: &Window,
-    even: Site,
-    odd: Site,
-    from: usize,
-    to: usize,
-    out: &mut [u16],
-)
+fn fill_reflecting(window: &Window, even: Site, odd: Site, from: usize, to: usize, out: &mut [u16])
     requires window { IsWindow window.now (length window.now.here.now) }
     requires cols { 4 ≤ length window.now.here.now × length window.now.here.now ≤ 8192 }
     requires order { from ≤ to }
@@ -115,4 +109,57 @@ pub(crate) fn fill_reflecting(
         let site = if c % 2 == 0 { even } else { odd };
         put(out, c, site.pixel(window.around_at(c)));
     }
+}
+
+/// Develops so many pairs of columns from column 2 on, whose neighbours all lie in the rows.
+#[inline(always)]
+fn fill_pairs(window: &Window, even: Site, odd: Site, pairs: usize, out: &mut [u16])
+    requires window { IsWindow window.now (length window.now.here.now) }
+    requires cols { length window.now.here.now ≤ 8192 }
+    requires within { pairs * 2 + 4 ≤ length window.now.here.now }
+    requires out { length out.old ≡ length window.now.here.now * 3 }
+    ensures pixels { HasPixels (row_sample even odd window.now (length window.now.here.now)) out.new 2 (pairs * 2 + 2) }
+    ensures before { SameBelow out.old out.new 2 }
+{
+    for k in 0..pairs {
+        let left = k * 2;
+        let first = window.around_by(left, left + 1, left + 2, left + 3, left + 4);
+        let second = window.around_by(left + 1, left + 2, left + 3, left + 4, left + 5);
+        let first_pixel = even.pixel(first);
+        let second_pixel = odd.pixel(second);
+        put(out, left + 2, first_pixel);
+        put(out, left + 3, second_pixel);
+    }
+}
+
+/// Develops so many pairs of columns from column 2 on: one loop for each kind of row.
+fn fill_inside(window: &Window, sites: RowSites, pairs: usize, out: &mut [u16])
+    requires window { IsWindow window.now (length window.now.here.now) }
+    requires cols { length window.now.here.now ≤ 8192 }
+    requires within { pairs * 2 + 4 ≤ length window.now.here.now }
+    requires out { length out.old ≡ length window.now.here.now * 3 }
+    ensures pixels { HasPixels (row_sample (even_site sites) (odd_site sites) window.now (length window.now.here.now)) out.new 2 (pairs * 2 + 2) }
+    ensures before { SameBelow out.old out.new 2 }
+{
+    match sites {
+        RowSites::RedGreen => fill_pairs(window, Site::Red, Site::GreenByRed, pairs, out),
+        RowSites::GreenRed => fill_pairs(window, Site::GreenByRed, Site::Red, pairs, out),
+        RowSites::GreenBlue => fill_pairs(window, Site::GreenByBlue, Site::Blue, pairs, out),
+        RowSites::BlueGreen => fill_pairs(window, Site::Blue, Site::GreenByBlue, pairs, out),
+    }
+}
+
+/// Develops a row.
+pub(crate) fn fill(window: &Window, sites: RowSites, out: &mut [u16])
+    requires window { IsWindow window.now (length window.now.here.now) }
+    requires cols { 4 ≤ length window.now.here.now × length window.now.here.now ≤ 8192 }
+    requires out { length out.old ≡ length window.now.here.now * 3 }
+    ensures { HasPixels (row_sample (even_site sites) (odd_site sites) window.now (length window.now.here.now)) out.new 0 (length window.now.here.now) }
+{
+    let cols = window.here.len();
+    let pairs = (cols - 4) / 2;
+    let (even, odd) = sites.pair();
+    fill_reflecting(window, even, odd, 0, 2, out);
+    fill_inside(window, sites, pairs, out);
+    fill_reflecting(window, even, odd, pairs * 2 + 2, cols, out);
 }
