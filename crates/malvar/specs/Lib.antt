@@ -1,2 +1,4 @@
 pub mod Pattern
 pub mod Demosaic
+pub mod Around
+pub mod Rows

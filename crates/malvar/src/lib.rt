@@ -1,12 +1,70 @@
 //! Demosaicing after Malvar, He and Cutler (2004).
 #![tactic(auto)]
 
-ghost use Rattle.std.specs.Prelude.{◌≡◌, ◌*◌, ◌≤◌, ◌<◌, length, slice_index};
+mod filters;
+mod rows;
+
+ghost use Rattle.std.specs.Prelude.{◌≡◌, ℕ, ◌+◌, ◌*◌, ◌≤◌, ◌<◌, pos, negsuc, ◌+ℤ◌, ◌≤ℤ◌, length, slice_index};
 ghost use Rattle.plane_view.specs.Plane.{Plane};
 ghost use Rattle.malvar.specs.Pattern.{IsBayer};
-ghost use Rattle.malvar.specs.Demosaic.{malvar, demosaiced};
+ghost use Rattle.malvar.specs.Demosaic.{malvar, demosaiced, demosaiced_at};
+ghost use Rattle.malvar.specs.Rows.{HasPixels, IsRow, IsWindow, IsWindowOf, single};
 
-/// test
+use filters::RowSites;
+use plane_view::reflect;
+use rows::{Window, fill};
+
+/// Row `r` of a plane, reflected if it is outside.
+fn row_of(plane: &[u16], rows: u32, cols: u32, r: i64) -> &[u16]
+    requires rows { 4 ≤ rows × rows ≤ 8192 }
+    requires cols { 4 ≤ cols × cols ≤ 8192 }
+    requires plane { length plane.now ≡ rows * cols }
+    requires low { negsuc 1 ≤ℤ r }
+    requires high { r ≤ℤ pos (rows + 1) }
+    ensures len { length result.now ≡ cols }
+    ensures row { IsRow result.now (single rows cols plane.now) r }
+{
+    let start = reflect(r, rows) as usize * cols as usize;
+    &plane[start..start + cols as usize]
+}
+
+/// Row `r` of a plane and the two rows above and below it, reflected at the edges.
+fn window_of(plane: &[u16], rows: u32, cols: u32, r: u32) -> Window<'_>
+    requires rows { 4 ≤ rows × rows ≤ 8192 }
+    requires cols { 4 ≤ cols × cols ≤ 8192 }
+    requires plane { length plane.now ≡ rows * cols }
+    requires r { r < rows }
+    ensures len { IsWindow result cols }
+    ensures rows { IsWindowOf result (single rows cols plane.now) r }
+{
+    let i = i64::from(r);
+    Window {
+        up_2: row_of(plane, rows, cols, i - 2),
+        up: row_of(plane, rows, cols, i - 1),
+        here: row_of(plane, rows, cols, i),
+        down: row_of(plane, rows, cols, i + 1),
+        down_2: row_of(plane, rows, cols, i + 2),
+    }
+}
+
+/// Develops row `r`.
+fn fill_row(plane: &[u16], rows: u32, cols: u32, cfa: [u8; 4], r: u32, out: &mut [u16])
+    requires rows { 4 ≤ rows × rows ≤ 8192 }
+    requires cols { 4 ≤ cols × cols ≤ 8192 }
+    requires plane { length plane.now ≡ rows * cols }
+    requires pattern { IsBayer cfa }
+    requires r { r < rows }
+    requires out { length out.old ≡ cols * 3 }
+    ensures { HasPixels (demosaiced_at malvar cfa (single rows cols plane.now) r) out.new 0 cols }
+{
+    let first = r as usize % 2 * 2;
+    let sites = RowSites::new(cfa[first], cfa[first + 1]);
+    let window = window_of(plane, rows, cols, r);
+    fill(&window, sites, out);
+}
+
+/// Red, green and blue of each pixel of a plane of `rows` by `cols` samples under the pattern `cfa`. Rows and columns
+/// outside the plane are read at [`reflect`] of them.
 pub fn whole(plane: &[u16], rows: u32, cols: u32, cfa: [u8; 4], out: &mut [u16])
     requires rows { 4 ≤ rows × rows ≤ 8192 }
     requires cols { 4 ≤ cols × cols ≤ 8192 }
@@ -14,4 +72,13 @@ pub fn whole(plane: &[u16], rows: u32, cols: u32, cfa: [u8; 4], out: &mut [u16])
     requires out { length out.old ≡ rows * cols * 3 }
     requires pattern { IsBayer cfa }
     ensures { out.new ≡ (demosaiced malvar cfa (record { rows = rows; cols = cols; planes = 1; samples = plane.now })).samples }
-{}
+{
+    let width = cols as usize * 3;
+    for r in 0..rows {
+        let start = r as usize * width;
+        fill_row(plane, rows, cols, cfa, r, &mut out[start..start + width]);
+    }
+}
+
+#[cfg(test)]
+mod tests;

@@ -1,0 +1,7 @@
+use Rattle.std.proofs.Common.{◌∙◌, ap}
+use Rattle.malvar.specs.Demosaic.{rounded}
+use Rattle.malvar.proofs.Sums.{green_sum}
+use Rattle.malvar.proofs.filters.Around.green.Goals as goal
+
+pub returns : goal.returns
+returns c = c.scaled.ensures ∙ ap rounded (green_sum c.args.self)

@@ -1,0 +1,7 @@
+use Rattle.std.proofs.Common.{◌∙◌, ap}
+use Rattle.malvar.specs.Demosaic.{rounded}
+use Rattle.malvar.proofs.Sums.{opposite_sum}
+use Rattle.malvar.proofs.filters.Around.opposite.Goals as goal
+
+pub returns : goal.returns
+returns c = c.scaled.ensures ∙ ap rounded (opposite_sum c.args.self)
