@@ -1,2 +1,3 @@
 pub mod Crops
+pub mod Parts
 pub mod Samples

@@ -1,3 +1,5 @@
+pub mod Lent
 pub mod Plane
 pub mod Rectangles
 pub mod Reflect
+pub mod Shapes

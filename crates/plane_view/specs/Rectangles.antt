@@ -1,5 +1,6 @@
 -- Rectangles of pixels: half-open, rows top to bottom, columns left to right. This is this project's own.
-use Rattle.std.specs.Prelude.{ℕ, ◌<◌, ◌≤◌}
+use Rattle.std.specs.Prelude.{ℕ, ◌+◌, ◌-◌, ◌*◌, ◌<◌, ◌≤◌}
+use Rattle.std.proofs.Common.{min, max}
 use Rattle.plane_view.specs.declared.Rect.{Rect}
 use Rattle.plane_view.specs.Plane.{Plane}
 
@@ -10,6 +11,11 @@ pub record HasPixel (rect : Rect) (r c : ℕ) : Type 0 where
   pub left : rect.left ≤ c
   pub right : c < rect.right
 
+-- the rectangle has a pixel
+pub record IsNonEmpty (rect : Rect) : Type 0 where
+  pub rows : rect.top < rect.bottom
+  pub cols : rect.left < rect.right
+
 -- the edges of the first rectangle are in order, and lie between those of the second
 pub record LiesIn (inner outer : Rect) : Type 0 where
   pub top : outer.top ≤ inner.top
@@ -18,6 +24,28 @@ pub record LiesIn (inner outer : Rect) : Type 0 where
   pub left : outer.left ≤ inner.left
   pub cols : inner.left ≤ inner.right
   pub right : inner.right ≤ outer.right
+
+-- how many rows the rectangle has
+abbrev pub height : Rect → ℕ
+height rect = rect.bottom - rect.top
+
+-- how many columns the rectangle has
+abbrev pub width : Rect → ℕ
+width rect = rect.right - rect.left
+
+-- how many pixels the rectangle has
+abbrev pub area_of : Rect → ℕ
+area_of rect = height rect * width rect
+
+-- the rectangle with each edge moved outwards by a number of pixels, but not past those of whole
+abbrev pub grown : Rect → ℕ → Rect → Rect
+grown rect by whole =
+    record { top = max (rect.top - by) whole.top; left = max (rect.left - by) whole.left; bottom = min (rect.bottom + by) whole.bottom; right = min (rect.right + by) whole.right }
+
+-- the rectangle moved down and to the right
+abbrev pub shifted : Rect → (down right : ℕ) → Rect
+shifted rect down right =
+    record { top = rect.top + down; left = rect.left + right; bottom = rect.bottom + down; right = rect.right + right }
 
 -- the rectangle of a plane of this many rows and columns
 abbrev pub whole_rect : (rows cols : ℕ) → Rect
