@@ -1,5 +1,5 @@
 -- The definitions at work on small scripts.
-use Rattle.std.proofs.Common.{◌≡◌, ℕ, List, [], ◌∷◌, Some, None, Ok, Err, refl}
+use Rattle.std.proofs.Common.{◌≡◌, [], ◌∷◌, Some, None, Ok, Err, refl}
 use Rattle.std.specs.Prelude.{codes}
 use Rattle.dev_settings.specs.declared.command.Format.TheVariants.{Ppm}
 use Rattle.dev_settings.specs.declared.command.Command.TheVariants.{Region}
