@@ -1,6 +1,6 @@
 // The files, the input and the output of the machine. Nothing is told of their bytes.
 
-ghost use Rattle.std.specs.Prelude.{◌≡◌, ℕ, ◌<◌, ◌≤◌, length, None, IfOk, is_err, if◌then◌else◌, ⊤};
+ghost use Rattle.std.specs.Prelude.{◌≡◌, ℕ, ◌<◌, ◌≤◌, List, length, None, IfOk, is_err, if◌then◌else◌, ⊤};
 ghost use Rattle.raw_io.specs.Memory.{one_more};
 
 use crate::{Failed, Files, Sink, Source};
@@ -40,6 +40,7 @@ impl<R: rt::Files> Files for HostFiles<R> {
     ghost faults = { λ s _. s };
 
     fn read(&mut self, name: &str, at: u64, into: &mut [u8]) -> Result<usize, Failed>
+        ensures counts { (other : List ℕ) → self.old ≤ self.new }
         ensures within { IfOk result (λ n. n ≤ length into.old) }
         ensures count { self.new ≡ (if is_err result then one_more self.old else self.old) }
     {
@@ -105,6 +106,7 @@ impl<R: Read> Source for StdSource<R> {
     ghost faults = { λ s. s };
 
     fn read(&mut self, into: &mut [u8]) -> Result<usize, Failed>
+        ensures counts { self.old ≤ self.new }
         ensures within { IfOk result (λ n. n ≤ length into.old) }
         ensures count { self.new ≡ (if is_err result then one_more self.old else self.old) }
     {
@@ -144,6 +146,7 @@ impl<W: Write> Sink for StdSink<W> {
     ghost faults = { λ s. s };
 
     fn write(&mut self, from: &[u8]) -> Result<usize, Failed>
+        ensures counts { self.old ≤ self.new }
         ensures within { IfOk result (λ n. n ≤ length from.now) }
         ensures progress { IfOk result (λ n. 0 < length from.now → 0 < n) }
         ensures count { self.new ≡ (if is_err result then one_more self.old else self.old) }

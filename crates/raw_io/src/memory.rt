@@ -10,7 +10,7 @@ use std::marker::Model;
 
 // The calls made on an object, and the numbers of those that fail.
 #[derive(Debug, Drop)]
-struct Calls {
+pub(crate) struct Calls {
     made: u64,
     failing: Vec<u64>,
 }
@@ -22,7 +22,7 @@ impl Model for Calls {
 }
 
 impl Calls {
-    fn new(alloc: Global) -> Self
+    pub(crate) fn new(alloc: Global) -> Self
         ensures { result ≡ no_calls }
     {
         Calls {
@@ -32,7 +32,7 @@ impl Calls {
     }
 
     // Counts a call, and tells whether it is one that fails.
-    fn begin(&mut self) -> bool
+    pub(crate) fn begin(&mut self) -> bool
         ensures after { self.new ≡ called self.old }
         ensures fails { result ≡ next_fails self.old }
     {
@@ -40,7 +40,7 @@ impl Calls {
         self.failing.contains(&self.made)
     }
 
-    fn fail_at(&mut self, call: u64) -> Result<(), AllocError>
+    pub(crate) fn fail_at(&mut self, call: u64) -> Result<(), AllocError>
         ensures added { OnOk result (self.new ≡ with_failing call self.old) }
         ensures refused { OnErr result (self.new ≡ self.old) }
     {
@@ -118,7 +118,7 @@ impl Source for MemSource {
 }
 
 // Copies as many bytes as both have, and answers how many.
-fn copy_front(from: &[u8], into: &mut [u8]) -> usize
+pub(crate) fn copy_front(from: &[u8], into: &mut [u8]) -> usize
     ensures count { result ≡ min (length from.now) (length into.old) }
     ensures copied { into.new ≡ take result from.now ++ drop result into.old }
 {
