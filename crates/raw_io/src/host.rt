@@ -181,3 +181,49 @@ fn flushed<W: Write>(to: &mut W, count: usize) -> Result<usize, Failed>
         Err(_) => Err(Failed),
     }
 }
+
+#[cfg(test)]
+mod tests {
+    use super::*;
+    use crate::{read_all, write_all};
+    use std::test::Fail;
+    use std::{fs, process};
+
+    #[test]
+    fn reads_a_file_from_an_offset(rt: HostRuntime) -> Result<(), Fail> {
+        let alloc = rt.alloc();
+        let id = process::id(rt.process());
+        let path = format!(in alloc; "/tmp/raw_io_{id}")?;
+        fs::write(&rt, path.as_str(), b"12345")?;
+        let mut files = HostFiles::new(&rt);
+        let mut into = [0u8; 3];
+        for (at, answer, bytes) in [
+            (0, Ok(3), *b"123"),
+            (3, Ok(2), *b"453"),
+            (5, Ok(0), *b"453"),
+        ] {
+            assert_eq!(rt; files.read(&path, at, &mut into), answer, "from {at}");
+            assert_eq!(rt; into, bytes, "from {at}");
+        }
+        let whole = read_all(alloc, &mut files, &path, 5);
+        fs::remove_file(&rt, path.as_str())?;
+        assert_eq!(rt; whole?.as_slice(), b"12345".as_slice());
+        assert_eq!(rt; files.read(&path, 0, &mut into), Err(Failed));
+        Ok(())
+    }
+
+    #[test]
+    fn passes_bytes_on(rt: HostRuntime) -> Result<(), Fail> {
+        let mut source = StdSource::new(b"123".as_slice());
+        let mut into = [0u8; 2];
+        assert_eq!(rt; source.read(&mut into), Ok(2));
+        assert_eq!(rt; source.read(&mut into), Ok(1));
+        assert_eq!(rt; into, *b"32");
+        assert_eq!(rt; source.read(&mut into), Ok(0));
+        let mut out = [0u8; 2];
+        let mut sink = StdSink::new(out.as_mut_slice());
+        assert_eq!(rt; write_all(&mut sink, b"12").is_ok(), true);
+        assert_eq!(rt; sink.write(b"3"), Err(Failed));
+        Ok(())
+    }
+}

@@ -204,3 +204,44 @@ impl Sink for MemSink {
         }
     }
 }
+
+#[cfg(test)]
+mod tests {
+    use super::*;
+    use std::test::Fail;
+
+    #[test]
+    fn a_source_gives_its_bytes_once(rt: HostRuntime) -> Result<(), Fail> {
+        let mut source = MemSource::new(rt.alloc(), &[1, 2, 3, 4, 5])?;
+        source.fail_at(2)?;
+        let mut into = [0u8; 3];
+        for (answer, bytes) in [
+            (Ok(3), [1, 2, 3]),
+            (Err(Failed), [1, 2, 3]),
+            (Ok(2), [4, 5, 3]),
+            (Ok(0), [4, 5, 3]),
+        ] {
+            assert_eq!(rt; source.read(&mut into), answer);
+            assert_eq!(rt; into, bytes);
+        }
+        Ok(())
+    }
+
+    #[test]
+    fn a_sink_takes_what_fits(rt: HostRuntime) -> Result<(), Fail> {
+        let mut sink = MemSink::new(rt.alloc(), 5)?;
+        sink.fail_at(2)?;
+        for (from, answer) in [
+            (b"abc".as_slice(), Ok(3)),
+            (b"d".as_slice(), Err(Failed)),
+            (b"def".as_slice(), Err(Failed)),
+            (b"de".as_slice(), Ok(2)),
+            (b"".as_slice(), Ok(0)),
+            (b"f".as_slice(), Err(Failed)),
+        ] {
+            assert_eq!(rt; sink.write(from), answer);
+        }
+        assert_eq!(rt; sink.bytes(), b"abcde".as_slice());
+        Ok(())
+    }
+}
