@@ -45,11 +45,20 @@ impl<R: rt::Files> Files for HostFiles<R> {
         ensures count { self.new ≡ (if is_err result then one_more self.old else self.old) }
     {
         let outcome = read_file(&self.host, name, at, into);
-        if outcome.is_err() {
-            self.faults = self.faults.saturating_add(1);
-        }
-        outcome
+        counted(&mut self.faults, outcome)
     }
+}
+
+// Counts a failed call.
+fn counted(faults: &mut u64, outcome: Result<usize, Failed>) -> Result<usize, Failed>
+    ensures same { result ≡ outcome }
+    ensures count { faults.new ≡ (if is_err outcome then one_more faults.old else faults.old) }
+    ensures grows { faults.old ≤ faults.new }
+{
+    if outcome.is_err() {
+        *faults = faults.saturating_add(1);
+    }
+    outcome
 }
 
 // Opens the file for this one read, so that no file stays open between two.
@@ -111,10 +120,7 @@ impl<R: Read> Source for StdSource<R> {
         ensures count { self.new ≡ (if is_err result then one_more self.old else self.old) }
     {
         let outcome = read_some(&mut self.input, into);
-        if outcome.is_err() {
-            self.faults = self.faults.saturating_add(1);
-        }
-        outcome
+        counted(&mut self.faults, outcome)
     }
 }
 
@@ -152,10 +158,7 @@ impl<W: Write> Sink for StdSink<W> {
         ensures count { self.new ≡ (if is_err result then one_more self.old else self.old) }
     {
         let outcome = write_some(&mut self.output, from);
-        if outcome.is_err() {
-            self.faults = self.faults.saturating_add(1);
-        }
-        outcome
+        counted(&mut self.faults, outcome)
     }
 }
 

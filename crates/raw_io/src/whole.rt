@@ -47,6 +47,16 @@ pub struct WriteFault {
     pub written: u64,
 }
 
+impl WriteFault {
+    fn after(written: usize) -> Self
+        ensures { result ≡ record { written = written } }
+    {
+        WriteFault {
+            written: written as u64,
+        }
+    }
+}
+
 /// The whole contents under a name, of at most `limit` bytes.
 pub fn read_all<F: Files>(
     alloc: Global,
@@ -193,11 +203,7 @@ pub fn write_all<O: Sink>(sink: &mut O, bytes: &[u8]) -> Result<(), WriteFault>
     while written < bytes.len() {
         match sink.write(&bytes[written..]) {
             Ok(count) => written += count,
-            Err(Failed) => {
-                return Err(WriteFault {
-                    written: written as u64,
-                });
-            }
+            Err(Failed) => return Err(WriteFault::after(written)),
         }
     }
     Ok(())
@@ -248,7 +254,7 @@ mod tests {
     fn takes_the_whole_source_or_says_why_not(rt: HostRuntime) -> Result<(), Fail> {
         let alloc = rt.alloc();
         for (fails, limit, wanted, len) in [
-            (0, 300_000, Ok(()), 300_000),
+            (0, 300_000u32, Ok(()), 300_000),
             (0, 299_999, Err(ReadFault::TooLong), 300_000),
             (2, 300_000, Err(ReadFault::Failed), 262_144),
             (1, 300_000, Err(ReadFault::Failed), 0),
@@ -256,7 +262,10 @@ mod tests {
             let mut source = MemSource::new(alloc, &long_text(alloc)?)?;
             source.fail_at(fails)?;
             let mut bytes = Vec::new(alloc);
-            assert_eq!(rt; read_source(&mut source, &mut bytes, limit), wanted);
+            assert_eq!(rt;
+                read_source(&mut source, &mut bytes, u64::from(limit)),
+                wanted
+            );
             assert_eq!(rt; bytes.len(), len);
         }
         Ok(())
