@@ -1,5 +1,5 @@
 -- A list of files with names: the place of a name, the file there, and a file put in its place.
-use Rattle.std.proofs.Common.{◌≡◌, ℕ, suc, zero, ◌+◌, ◌-◌, ◌^◌, ◌<◌, ◌≤◌, min, take, Bool, true, false, cond, ◌||◌, List, [], ◌∷◌, ◌++◌, length, get_or, set, drop, Option, Some, None, refl, sym, ◌∙◌, ap, subst, inl, inr, arith}
+use Rattle.std.proofs.Common.{◌≡◌, ℕ, suc, ◌-◌, ◌^◌, ◌<◌, ◌≤◌, min, take, Bool, true, false, cond, ◌||◌, List, [], ◌∷◌, ◌++◌, length, get_or, set, drop, Option, Some, None, refl, sym, ◌∙◌, ap, subst, inl, inr, arith}
 use Rattle.std.specs.Option.{option_map, option_map_or, is_none, IfSome}
 use Rattle.std.specs.Str.{bytes_eq}
 use Rattle.std.proofs.lemmas.Slice.Eq.{bytes_eq-Decides}
@@ -7,7 +7,7 @@ use Rattle.std.proofs.lemmas.Bool.{false≢true, cases_lt}
 use Rattle.std.proofs.Math.Nat.{le_refl}
 use Rattle.std.proofs.lemmas.List.{take_at, length-take, length-drop, length-append}
 use Rattle.raw_io.specs.Outside.{Rises, ReadsAt}
-use Rattle.raw_io.specs.Memory.{MemoryFile, MemoryFiles, CallNumbers, called, one_more, place_of, file_of, with_file, contents_of, faults_of, with_contents, with_fault, files_failed, next_fails}
+use Rattle.raw_io.specs.Memory.{MemoryFile, MemoryFiles, one_more, place_of, file_of, with_file, contents_of, faults_of, with_contents, with_fault, files_failed, next_fails}
 
 cond_true : {A : Type 0} (b : Bool) (x y : A) → b ≡ true → cond b x y ≡ x
 cond_true b x y e = ap (λ (t : Bool). cond t x y) e

@@ -1,4 +1,4 @@
-use Rattle.std.proofs.Common.{◌≡◌, ℕ, ◌<◌, ◌≤◌, ◌++◌, [], ◌∷◌, List, length, set, Some, None, Option, refl, sym, ◌∙◌, ap, subst, arith}
+use Rattle.std.proofs.Common.{◌≡◌, ℕ, ◌<◌, ◌≤◌, ◌++◌, [], ◌∷◌, List, length, set, Some, None, ◌∙◌, ap, subst, arith}
 use Rattle.raw_io.specs.Memory.{MemoryFile, MemoryFiles, place_of, file_of, with_file, with_contents, contents_of, faults_of}
 use Rattle.raw_io.specs.contracts.memory_files.MemFiles.{the_view}
 use Rattle.raw_io.proofs.Places.{there, absent, set_there, push_there, faults_there, faults_absent, added_contents, added_faults}

@@ -1,7 +1,7 @@
-use Rattle.std.proofs.Common.{◌≡◌, ℕ, ◌<◌, ◌≤◌, ◌||◌, min, ◌-◌, ◌++◌, true, false, List, length, set, take, drop, Some, None, Option, refl, sym, ◌∙◌, ap, subst, arith}
+use Rattle.std.proofs.Common.{◌≡◌, ℕ, ◌<◌, ◌≤◌, ◌||◌, min, ◌-◌, ◌++◌, true, false, List, length, set, take, drop, Some, None, refl, sym, ◌∙◌, ap, subst, arith}
 use Rattle.std.specs.Option.{IfSome, is_none}
 use Rattle.raw_io.specs.Outside.{Rises, ReadsAt}
-use Rattle.raw_io.specs.Memory.{CallNumbers, MemoryFile, MemoryFiles, place_of, file_of, with_file, with_fault, one_more, called, contents_of, faults_of, files_failed, next_fails}
+use Rattle.raw_io.specs.Memory.{CallNumbers, MemoryFile, MemoryFiles, place_of, file_of, with_file, with_fault, one_more, contents_of, faults_of, files_failed, next_fails}
 use Rattle.raw_io.specs.contracts.memory_files.MemFiles.{the_view}
 use Rattle.raw_io.proofs.Places.{there, absent, set_there, named, failed_absent, failed_there, failed_contents, failed_rises, failed_grows, fails_absent, goes_well, copied_there, reads_there}
 use Rattle.raw_io.proofs.memory_files.MemFilesFiles.read.Goals as goal
