@@ -1,6 +1,8 @@
 -- Files, sources and sinks in memory, as contracts see them. All of it is this project's own.
-use Rattle.std.specs.Prelude.{◌≡◌, ℕ, ◌+◌, ◌-◌, ◌^◌, ◌==◌, min, Bool, List, [], ◌∷◌, ◌++◌, drop}
+use Rattle.std.specs.Prelude.{ℕ, suc, ◌+◌, ◌-◌, ◌^◌, ◌==◌, min, Bool, if◌then◌else◌, List, [], ◌∷◌, ◌++◌, drop, Option, None, Some, option_map}
 use Rattle.std.specs.List.{list_any}
+use Rattle.std.specs.Option.{option_map_or}
+use Rattle.std.specs.Str.{bytes_eq}
 
 -- a count after one more, held at its last value
 abbrev pub one_more : ℕ → ℕ
@@ -55,3 +57,63 @@ sink_after bytes sink = record { bytes = sink.bytes ++ bytes; capacity = sink.ca
 -- after a write that failed
 abbrev pub sink_failed : MemorySink → MemorySink
 sink_failed sink = record { bytes = sink.bytes; capacity = sink.capacity; calls = called sink.calls; faults = one_more sink.faults }
+
+-- a file in memory, and how often a read of its name failed
+pub record MemoryFile : Type 0 where
+  pub name : List ℕ
+  pub bytes : List ℕ
+  pub faults : ℕ
+
+-- files in memory, how often a read of any other name failed, and the calls
+pub record MemoryFiles : Type 0 where
+  pub files : List MemoryFile
+  pub others : ℕ
+  pub calls : CallNumbers
+
+-- the place of the first file of this name, or the number of files
+abbrev pub place_of : List ℕ → List MemoryFile → ℕ
+place_of name [] = 0
+place_of name (file ∷ files) = if bytes_eq file.name name then 0 else suc (place_of name files)
+
+-- the file of this name, if it is there
+abbrev pub file_of : List ℕ → List MemoryFile → Option MemoryFile
+file_of name [] = None
+file_of name (file ∷ files) = if bytes_eq file.name name then Some file else file_of name files
+
+-- the files with this one in the place of that of its name, or behind all
+abbrev pub with_file : MemoryFile → List MemoryFile → List MemoryFile
+with_file new [] = new ∷ []
+with_file new (file ∷ files) = if bytes_eq file.name new.name then new ∷ files else file ∷ with_file new files
+
+-- the contents under a name that is there
+abbrev pub contents_of : MemoryFiles → List ℕ → Option (List ℕ)
+contents_of all name = option_map (λ file. file.bytes) (file_of name all.files)
+
+-- how often a read of a name failed; the names that aren't there share one count
+abbrev pub faults_of : MemoryFiles → List ℕ → ℕ
+faults_of all name = option_map_or (λ file. file.faults) (file_of name all.files) all.others
+
+-- after a name was given its contents; it keeps its count
+abbrev pub with_contents : List ℕ → List ℕ → MemoryFiles → MemoryFiles
+with_contents name bytes all = record {
+  files = with_file (record { name = name; bytes = bytes; faults = faults_of all name }) all.files;
+  others = all.others;
+  calls = all.calls;
+}
+
+-- after a read that went well
+abbrev pub files_read : MemoryFiles → MemoryFiles
+files_read all = record { files = all.files; others = all.others; calls = called all.calls }
+
+-- after one more fault of this file, or of a name that isn't there
+abbrev pub with_fault : Option MemoryFile → MemoryFiles → MemoryFiles
+with_fault None all = record { files = all.files; others = one_more all.others; calls = called all.calls }
+with_fault (Some file) all = record {
+  files = with_file (record { name = file.name; bytes = file.bytes; faults = one_more file.faults }) all.files;
+  others = all.others;
+  calls = called all.calls;
+}
+
+-- after a read of a name that failed
+abbrev pub files_failed : List ℕ → MemoryFiles → MemoryFiles
+files_failed name all = with_fault (file_of name all.files) all

@@ -1,6 +1,6 @@
 // The files, the input and the output of the machine. Nothing is told of their bytes.
 
-ghost use Rattle.std.specs.Prelude.{◌≡◌, ℕ, ◌<◌, ◌≤◌, length, None, IfOk, is_err, if◌then◌else◌, ⊤};
+ghost use Rattle.std.specs.Prelude.{◌≡◌, ℕ, ◌<◌, ◌≤◌, List, length, None, IfOk, is_err, if◌then◌else◌, ⊤};
 ghost use Rattle.raw_io.specs.Memory.{one_more};
 
 use crate::{Failed, Files, Sink, Source};
@@ -40,15 +40,25 @@ impl<R: rt::Files> Files for HostFiles<R> {
     ghost faults = { λ s _. s };
 
     fn read(&mut self, name: &str, at: u64, into: &mut [u8]) -> Result<usize, Failed>
+        ensures counts { (other : List ℕ) → self.old ≤ self.new }
         ensures within { IfOk result (λ n. n ≤ length into.old) }
         ensures count { self.new ≡ (if is_err result then one_more self.old else self.old) }
     {
         let outcome = read_file(&self.host, name, at, into);
-        if outcome.is_err() {
-            self.faults = self.faults.saturating_add(1);
-        }
-        outcome
+        counted(&mut self.faults, outcome)
     }
+}
+
+// Counts a failed call.
+fn counted(faults: &mut u64, outcome: Result<usize, Failed>) -> Result<usize, Failed>
+    ensures same { result ≡ outcome }
+    ensures count { faults.new ≡ (if is_err outcome then one_more faults.old else faults.old) }
+    ensures grows { faults.old ≤ faults.new }
+{
+    if outcome.is_err() {
+        *faults = faults.saturating_add(1);
+    }
+    outcome
 }
 
 // Opens the file for this one read, so that no file stays open between two.
@@ -105,14 +115,12 @@ impl<R: Read> Source for StdSource<R> {
     ghost faults = { λ s. s };
 
     fn read(&mut self, into: &mut [u8]) -> Result<usize, Failed>
+        ensures counts { self.old ≤ self.new }
         ensures within { IfOk result (λ n. n ≤ length into.old) }
         ensures count { self.new ≡ (if is_err result then one_more self.old else self.old) }
     {
         let outcome = read_some(&mut self.input, into);
-        if outcome.is_err() {
-            self.faults = self.faults.saturating_add(1);
-        }
-        outcome
+        counted(&mut self.faults, outcome)
     }
 }
 
@@ -144,15 +152,13 @@ impl<W: Write> Sink for StdSink<W> {
     ghost faults = { λ s. s };
 
     fn write(&mut self, from: &[u8]) -> Result<usize, Failed>
+        ensures counts { self.old ≤ self.new }
         ensures within { IfOk result (λ n. n ≤ length from.now) }
         ensures progress { IfOk result (λ n. 0 < length from.now → 0 < n) }
         ensures count { self.new ≡ (if is_err result then one_more self.old else self.old) }
     {
         let outcome = write_some(&mut self.output, from);
-        if outcome.is_err() {
-            self.faults = self.faults.saturating_add(1);
-        }
-        outcome
+        counted(&mut self.faults, outcome)
     }
 }
 
@@ -176,5 +182,51 @@ fn flushed<W: Write>(to: &mut W, count: usize) -> Result<usize, Failed>
     match to.flush() {
         Ok(()) => Ok(count),
         Err(_) => Err(Failed),
+    }
+}
+
+#[cfg(test)]
+mod tests {
+    use super::*;
+    use crate::{read_all, write_all};
+    use std::test::Fail;
+    use std::{fs, process};
+
+    #[test]
+    fn reads_a_file_from_an_offset(rt: HostRuntime) -> Result<(), Fail> {
+        let alloc = rt.alloc();
+        let id = process::id(rt.process());
+        let path = format!(in alloc; "/tmp/raw_io_{id}")?;
+        fs::write(&rt, path.as_str(), b"12345")?;
+        let mut files = HostFiles::new(&rt);
+        let mut into = [0u8; 3];
+        for (at, answer, bytes) in [
+            (0, Ok(3), *b"123"),
+            (3, Ok(2), *b"453"),
+            (5, Ok(0), *b"453"),
+        ] {
+            assert_eq!(rt; files.read(&path, at, &mut into), answer, "from {at}");
+            assert_eq!(rt; into, bytes, "from {at}");
+        }
+        let whole = read_all(alloc, &mut files, &path, 5);
+        fs::remove_file(&rt, path.as_str())?;
+        assert_eq!(rt; whole?.as_slice(), b"12345".as_slice());
+        assert_eq!(rt; files.read(&path, 0, &mut into), Err(Failed));
+        Ok(())
+    }
+
+    #[test]
+    fn passes_bytes_on(rt: HostRuntime) -> Result<(), Fail> {
+        let mut source = StdSource::new(b"123".as_slice());
+        let mut into = [0u8; 2];
+        assert_eq!(rt; source.read(&mut into), Ok(2));
+        assert_eq!(rt; source.read(&mut into), Ok(1));
+        assert_eq!(rt; into, *b"32");
+        assert_eq!(rt; source.read(&mut into), Ok(0));
+        let mut out = [0u8; 2];
+        let mut sink = StdSink::new(out.as_mut_slice());
+        assert_eq!(rt; write_all(&mut sink, b"12").is_ok(), true);
+        assert_eq!(rt; sink.write(b"3"), Err(Failed));
+        Ok(())
     }
 }

@@ -3,10 +3,12 @@
 
 mod host;
 mod memory;
+mod memory_files;
 mod traits;
 mod whole;
 
 pub use host::{HostFiles, StdSink, StdSource};
 pub use memory::{MemSink, MemSource};
+pub use memory_files::MemFiles;
 pub use traits::{Failed, Files, Sink, Source};
 pub use whole::{ReadFault, WriteFault, read_all, read_source, write_all};
