@@ -6,8 +6,8 @@ use Rattle.std.proofs.lemmas.Int.{ints}
 use Rattle.plane_view.specs.Plane.{Plane, sample}
 use Rattle.plane_view.specs.Reflect.{reflected}
 use Rattle.malvar.specs.Pattern.{colour_at}
-use Rattle.malvar.specs.Demosaic.{malvar, Weights, weighted_sum, demosaiced_at, weights_at, rounded}
-use Rattle.malvar.specs.Around.{weighted, own_colour, next_colour, sample_by}
+use Rattle.malvar.specs.Demosaic.{malvar, weighted_sum, demosaiced_at, weights_at, rounded}
+use Rattle.malvar.specs.Around.{own_colour, next_colour, sample_by}
 use Rattle.malvar.specs.Rows.{IsWindowOf, around_by, around_at, row_sample}
 use Rattle.malvar.specs.declared.filters.Around.{Around}
 use Rattle.malvar.specs.declared.filters.Site.{Site}
@@ -38,10 +38,7 @@ around_of P r c =
     let at : ℤ → ℕ = λ right. reflected P.cols (pos c +ℤ right) in
     around_in P r (at (negsuc 1)) (at (negsuc 0)) (at (pos 0)) (at (pos 1)) (at (pos 2))
 
--- they are those of the weighted sum
-weighted_is : (w : Weights) (P : Plane) (r c : ℕ) → weighted w (around_of P r c) ≡ weighted_sum P r c w
-weighted_is w P r c = refl
-
+-- sums that are equal one by one
 same_fields : (a b : Around) → a.centre ≡ b.centre → a.beside ≡ b.beside → a.upright ≡ b.upright → a.diagonal ≡ b.diagonal → a.beside_2 ≡ b.beside_2 → a.upright_2 ≡ b.upright_2 → a ≡ b
 same_fields a b h1 h2 h3 h4 h5 h6 =
     λ i. record { centre = h1 i; beside = h2 i; upright = h3 i; diagonal = h4 i; beside_2 = h5 i; upright_2 = h6 i }

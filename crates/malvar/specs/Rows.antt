@@ -16,6 +16,10 @@ pub record IsWindow (w : Window) (n : ℕ) : Type 0 where
   pub down : length w.down.now ≡ n
   pub down_2 : length w.down_2.now ≡ n
 
+-- how many samples each row has
+abbrev pub cols_of : Window → ℕ
+cols_of w = length w.here.now
+
 -- the sums at column c, with these columns for the two on its left and the two on its right
 abbrev pub around_by : Window → (left_2 left c right right_2 : ℕ) → Around
 around_by w left_2 left c right right_2 = record {
@@ -41,6 +45,10 @@ row_sample even odd w n c wanted =
 -- the pixels from one column up to another have these samples
 abbrev pub HasPixels : (ℕ → ℕ → ℕ) → List ℕ → ℕ → ℕ → Type 0
 HasPixels f xs from to = (c p : ℕ) → from ≤ c → c < to → p < 3 → slice_index xs (c * 3 + p) ≡ f c p
+
+-- the pixels from one column up to another are developed
+abbrev pub HasColumns : (even odd : Site) → Window → List ℕ → ℕ → ℕ → Type 0
+HasColumns even odd w xs from to = HasPixels (row_sample even odd w (cols_of w)) xs from to
 
 -- a row whose pixel at column c is written
 abbrev pub with_pixel : List ℕ → ℕ → List ℕ → List ℕ

@@ -1,6 +1,6 @@
 //! The four filters of Malvar, He and Cutler (2004, figure 2), on sums of samples round one pixel.
 
-ghost use Rattle.std.specs.Prelude.{◌≡◌, ℕ, ◌+◌, ◌<◌, ◌≤◌, ◌^◌, pos, ◌-ℤ◌, slice_index, length};
+ghost use Rattle.std.specs.Prelude.{◌≡◌, ◌<◌, ◌^◌, pos, ◌-ℤ◌};
 ghost use Rattle.malvar.specs.Demosaic.{malvar, rounded};
 
 /// The samples round a pixel, summed by where they stand.

@@ -1,10 +1,11 @@
-//! Demosaicing after Malvar, He and Cutler (2004).
+//! Demosaicing after Malvar, He and Cutler, "High-quality linear interpolation for demosaicing of Bayer-patterned color
+//! images" (2004).
 #![tactic(auto)]
 
 mod filters;
 mod rows;
 
-ghost use Rattle.std.specs.Prelude.{◌≡◌, ℕ, ◌+◌, ◌*◌, ◌≤◌, ◌<◌, pos, negsuc, ◌+ℤ◌, ◌≤ℤ◌, length, slice_index};
+ghost use Rattle.std.specs.Prelude.{◌≡◌, ◌+◌, ◌*◌, ◌≤◌, ◌<◌, pos, negsuc, ◌≤ℤ◌, length};
 ghost use Rattle.plane_view.specs.Plane.{Plane};
 ghost use Rattle.malvar.specs.Pattern.{IsBayer};
 ghost use Rattle.malvar.specs.Demosaic.{malvar, demosaiced, demosaiced_at};
@@ -63,8 +64,10 @@ fn fill_row(plane: &[u16], rows: u32, cols: u32, cfa: [u8; 4], r: u32, out: &mut
     fill(&window, sites, out);
 }
 
-/// Red, green and blue of each pixel of a plane of `rows` by `cols` samples under the pattern `cfa`. Rows and columns
-/// outside the plane are read at [`reflect`] of them.
+/// Writes red, green and blue of each pixel, side by side and row by row, of a plane of `rows` by `cols` samples under
+/// the pattern `cfa` (0 red, 1 green, 2 blue; row by row). A pixel keeps its own colour's sample, and each other colour is
+/// a filter's sum, rounded to the nearest number and held within 0 and 65535. Rows and columns outside the plane are
+/// read at [`reflect`] of them. It takes no memory.
 pub fn whole(plane: &[u16], rows: u32, cols: u32, cfa: [u8; 4], out: &mut [u16])
     requires rows { 4 ≤ rows × rows ≤ 8192 }
     requires cols { 4 ≤ cols × cols ≤ 8192 }

@@ -1,6 +1,8 @@
 //! One row of pixels, from five rows of samples.
 
-ghost use Rattle.std.specs.Prelude.{◌≡◌, ℕ, ◌+◌, ◌*◌, ◌<◌, ◌≤◌, slice_index, slice_set, length};
+ghost use Rattle.std.specs.Prelude.{◌≡◌, ◌+◌, ◌*◌, ◌<◌, ◌≤◌, slice_index, length};
+ghost use Rattle.malvar.specs.Around.{IsAround, even_site, odd_site};
+ghost use Rattle.malvar.specs.Rows.{IsWindow, cols_of, around_by, around_at, with_pixel, HasColumns, SameBelow};
 
 use crate::filters::{Around, RowSites, Site};
 use plane_view::reflect;
@@ -27,9 +29,6 @@ fn sum_of(row: &[u16], left: usize, right: usize) -> u32
 }
 
 impl Window<'_> {
-    ghost use Rattle.malvar.specs.Around.{IsAround};
-    ghost use Rattle.malvar.specs.Rows.{IsWindow, around_by, around_at};
-
     /// The sums at column `c`, with these columns for the two on its left and the two on its right.
     #[inline(always)]
     fn around_by(
@@ -40,12 +39,12 @@ impl Window<'_> {
         right: usize,
         right_2: usize,
     ) -> Around
-        requires rows { IsWindow self.now (length self.now.here.now) }
-        requires left_2 { left_2 < length self.now.here.now }
-        requires left { left < length self.now.here.now }
-        requires c { c < length self.now.here.now }
-        requires right { right < length self.now.here.now }
-        requires right_2 { right_2 < length self.now.here.now }
+        requires rows { IsWindow self.now (cols_of self.now) }
+        requires left_2 { left_2 < cols_of self.now }
+        requires left { left < cols_of self.now }
+        requires c { c < cols_of self.now }
+        requires right { right < cols_of self.now }
+        requires right_2 { right_2 < cols_of self.now }
         ensures sums { result ≡ around_by self.now left_2 left c right right_2 }
         ensures small { IsAround result }
     {
@@ -61,10 +60,10 @@ impl Window<'_> {
 
     /// The sums at column `c`, columns outside the rows being reflected.
     fn around_at(&self, c: usize) -> Around
-        requires rows { IsWindow self.now (length self.now.here.now) }
-        requires cols { 4 ≤ length self.now.here.now × length self.now.here.now ≤ 8192 }
-        requires c { c < length self.now.here.now }
-        ensures sums { result ≡ around_at self.now (length self.now.here.now) c }
+        requires rows { IsWindow self.now (cols_of self.now) }
+        requires cols { 4 ≤ cols_of self.now × cols_of self.now ≤ 8192 }
+        requires c { c < cols_of self.now }
+        ensures sums { result ≡ around_at self.now (cols_of self.now) c }
         ensures small { IsAround result }
     {
         let n = self.here.len() as u32;
@@ -91,18 +90,15 @@ fn put(out: &mut [u16], c: usize, pixel: [u16; 3])
     out[at + 2] = pixel[2];
 }
 
-ghost use Rattle.malvar.specs.Rows.{IsWindow, row_sample, with_pixel, HasPixels, SameBelow};
-ghost use Rattle.malvar.specs.Around.{even_site, odd_site};
-
 /// Develops the columns from `from` up to `to`, reflecting columns outside the rows. The even columns are sites of one
 /// kind, and the odd columns of another.
 fn fill_reflecting(window: &Window, even: Site, odd: Site, from: usize, to: usize, out: &mut [u16])
-    requires window { IsWindow window.now (length window.now.here.now) }
-    requires cols { 4 ≤ length window.now.here.now × length window.now.here.now ≤ 8192 }
+    requires window { IsWindow window.now (cols_of window.now) }
+    requires cols { 4 ≤ cols_of window.now × cols_of window.now ≤ 8192 }
     requires order { from ≤ to }
-    requires within { to ≤ length window.now.here.now }
-    requires out { length out.old ≡ length window.now.here.now * 3 }
-    ensures pixels { HasPixels (row_sample even odd window.now (length window.now.here.now)) out.new from to }
+    requires within { to ≤ cols_of window.now }
+    requires out { length out.old ≡ cols_of window.now * 3 }
+    ensures pixels { HasColumns even odd window.now out.new from to }
     ensures before { SameBelow out.old out.new from }
 {
     for c in from..to {
@@ -114,11 +110,11 @@ fn fill_reflecting(window: &Window, even: Site, odd: Site, from: usize, to: usiz
 /// Develops so many pairs of columns from column 2 on, whose neighbours all lie in the rows.
 #[inline(always)]
 fn fill_pairs(window: &Window, even: Site, odd: Site, pairs: usize, out: &mut [u16])
-    requires window { IsWindow window.now (length window.now.here.now) }
-    requires cols { length window.now.here.now ≤ 8192 }
-    requires within { pairs * 2 + 4 ≤ length window.now.here.now }
-    requires out { length out.old ≡ length window.now.here.now * 3 }
-    ensures pixels { HasPixels (row_sample even odd window.now (length window.now.here.now)) out.new 2 (pairs * 2 + 2) }
+    requires window { IsWindow window.now (cols_of window.now) }
+    requires cols { cols_of window.now ≤ 8192 }
+    requires within { pairs * 2 + 4 ≤ cols_of window.now }
+    requires out { length out.old ≡ cols_of window.now * 3 }
+    ensures pixels { HasColumns even odd window.now out.new 2 (pairs * 2 + 2) }
     ensures before { SameBelow out.old out.new 2 }
 {
     for k in 0..pairs {
@@ -134,11 +130,11 @@ fn fill_pairs(window: &Window, even: Site, odd: Site, pairs: usize, out: &mut [u
 
 /// Develops so many pairs of columns from column 2 on: one loop for each kind of row.
 fn fill_inside(window: &Window, sites: RowSites, pairs: usize, out: &mut [u16])
-    requires window { IsWindow window.now (length window.now.here.now) }
-    requires cols { length window.now.here.now ≤ 8192 }
-    requires within { pairs * 2 + 4 ≤ length window.now.here.now }
-    requires out { length out.old ≡ length window.now.here.now * 3 }
-    ensures pixels { HasPixels (row_sample (even_site sites) (odd_site sites) window.now (length window.now.here.now)) out.new 2 (pairs * 2 + 2) }
+    requires window { IsWindow window.now (cols_of window.now) }
+    requires cols { cols_of window.now ≤ 8192 }
+    requires within { pairs * 2 + 4 ≤ cols_of window.now }
+    requires out { length out.old ≡ cols_of window.now * 3 }
+    ensures pixels { HasColumns (even_site sites) (odd_site sites) window.now out.new 2 (pairs * 2 + 2) }
     ensures before { SameBelow out.old out.new 2 }
 {
     match sites {
@@ -151,10 +147,10 @@ fn fill_inside(window: &Window, sites: RowSites, pairs: usize, out: &mut [u16])
 
 /// Develops a row.
 pub(crate) fn fill(window: &Window, sites: RowSites, out: &mut [u16])
-    requires window { IsWindow window.now (length window.now.here.now) }
-    requires cols { 4 ≤ length window.now.here.now × length window.now.here.now ≤ 8192 }
-    requires out { length out.old ≡ length window.now.here.now * 3 }
-    ensures { HasPixels (row_sample (even_site sites) (odd_site sites) window.now (length window.now.here.now)) out.new 0 (length window.now.here.now) }
+    requires window { IsWindow window.now (cols_of window.now) }
+    requires cols { 4 ≤ cols_of window.now × cols_of window.now ≤ 8192 }
+    requires out { length out.old ≡ cols_of window.now * 3 }
+    ensures { HasColumns (even_site sites) (odd_site sites) window.now out.new 0 (cols_of window.now) }
 {
     let cols = window.here.len();
     let pairs = (cols - 4) / 2;
