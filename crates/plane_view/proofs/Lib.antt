@@ -1,3 +1,4 @@
 pub mod Crops
 pub mod Parts
 pub mod Samples
+pub mod Writes

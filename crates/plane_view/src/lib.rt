@@ -3,8 +3,10 @@
 //! A plane has its samples row by row, the samples of a pixel side by side. No call takes memory.
 #![tactic(auto)]
 
+mod tiles;
 mod views;
 
+pub use tiles::TileMut;
 pub use views::View;
 
 ghost use Rattle.std.specs.Prelude.{◌≡◌, ℕ, ◌+◌, ◌-◌, ◌*◌, ◌<◌, ◌≤◌, ◌^◌, ◌↔◌, pos, negsuc, ◌≤ℤ◌, IsTrue, IsNone, IfSome, false};

@@ -1,0 +1,32 @@
+-- Tiles: parts of planes lent for writing. This is this project's own.
+use Rattle.std.specs.Prelude.{◌≡◌, ℕ, ◌<◌, List}
+use Rattle.std.specs.Borrow.{GName}
+use Rattle.plane_view.specs.declared.Rect.{Rect}
+use Rattle.plane_view.specs.declared.tiles.TileMut.{TileMut}
+use Rattle.plane_view.specs.Rectangles.{HasPixel}
+use Rattle.plane_view.specs.Lent.{Lent, sample_at, part_of}
+
+-- all that was lent: the whole slice, over the rectangle that it was lent for
+abbrev pub loan : TileMut → Lent
+loan t = record { rect = t.home; planes = t.planes; samples = t.samples.now }
+
+-- what the tile shows of it: the part over its rectangle
+abbrev pub tile : TileMut → Lent
+tile t = part_of (loan t) t.rect
+
+-- which slice was lent
+abbrev pub lent_name : TileMut → GName
+lent_name t = t.samples.ghost_name
+
+-- the tile still lends the same slice over the same rectangle, and the samples outside stay
+pub record SameLoan (old new : TileMut) : Type 0 where
+  pub slice : lent_name new ≡ lent_name old
+  pub home : (loan new).rect ≡ (loan old).rect
+  pub planes : (loan new).planes ≡ (loan old).planes
+  pub rect : (tile new).rect ≡ (tile old).rect
+  pub outside : (r c p : ℕ) → HasPixel (loan old).rect r c → (HasPixel (tile old).rect r c → ⊥) → p < (loan old).planes → sample_at (loan new) r c p ≡ sample_at (loan old) r c p
+
+-- the sample at row r, column c of plane p is v, and the others stay
+pub record PutsSample (old new : Lent) (r c p v : ℕ) : Type 0 where
+  pub sample : sample_at new r c p ≡ v
+  pub others : (r' c' p' : ℕ) → HasPixel old.rect r' c' → p' < old.planes → (r' ≡ r → c' ≡ c → p' ≡ p → ⊥) → sample_at new r' c' p' ≡ sample_at old r' c' p'
