@@ -3,15 +3,17 @@ use Rattle.std.proofs.Common.{◌≡◌, ◌≢◌, ℕ, ◌+◌, ◌-◌, ◌*�
 use Rattle.std.proofs.Math.ListN.{set, get_or-append}
 use Rattle.std.proofs.Math.Nat.{mul-le-mul_right}
 use Rattle.std.proofs.lemmas.Bool.{cases_lt}
-use Rattle.std.proofs.lemmas.List.{get_or-take, get_or-drop, length-take-le, length-drop, get_or-append_right, get_or-set_same, get_or-set_other}
+use Rattle.std.proofs.lemmas.List.{get_or-take, get_or-drop, length-take-le, length-drop, length-append, get_or-append_right, get_or-set_same, get_or-set_other}
 use Rattle.std.proofs.lemmas.Nat.{div-mul-add, mod-mul-add}
+use Rattle.std.proofs.lemmas.Slice.{between-put_mid}
 use borrow.Rule.Slice.PartMut.{put_mid, post_of}
+use Rattle.plane_view.specs.Tiles.{PutsRun}
 use Rattle.plane_view.specs.declared.Rect.{Rect}
 use Rattle.plane_view.specs.Plane.{place}
 use Rattle.plane_view.specs.Rectangles.{HasPixel, height, width}
-use Rattle.plane_view.specs.Lent.{Lent, place_in, sample_at, part_of, IsFull, StaysIn}
+use Rattle.plane_view.specs.Lent.{Lent, place_in, sample_at, part_of, row_of, HasRow, HasRun, IsFull, StaysIn}
 use Rattle.plane_view.proofs.Samples.{place_below}
-use Rattle.plane_view.proofs.Parts.{part_at}
+use Rattle.plane_view.proofs.Parts.{part_at, part_row}
 
 -- a pixel of a part is one of the lender
 pub pixel_in : (outer inner : Rect) (r c : ℕ) → StaysIn inner outer → HasPixel inner r c → HasPixel outer r c
@@ -67,13 +69,6 @@ after_mid a k xs ys i within long above =
     ∙ get_or-drop k (drop a xs) (i - a - k) 0
     ∙ get_or-drop a xs (k + (i - a - k)) 0
     ∙ (let back : a + (k + (i - a - k)) ≡ i = omega arith in ap (λ n. get_or xs n 0) back)
-
--- n pixels of row r, from column c on, lie in the rectangle
-pub record HasRun (rect : Rect) (r c n : ℕ) : Type 0 where
-  pub top : rect.top ≤ r
-  pub bottom : r < rect.bottom
-  pub left : rect.left ≤ c
-  pub right : c + n ≤ rect.right
 
 -- a run ends within the samples
 pub run_inside : (L : Lent) (r c n : ℕ) → IsFull L → HasRun L.rect r c n → place_in L.rect L.planes r c 0 + n * L.planes ≤ length L.samples
@@ -150,3 +145,53 @@ run_elsewhere L r c n ws r' c' p' full run long pixel plane other =
     (cases_lt c' c))
     (cases_lt r r'))
     (cases_lt r' r)
+
+-- a run of a part is one of the lender
+pub run_in : (outer inner : Rect) (r c n : ℕ) → StaysIn inner outer → HasRun inner r c n → HasRun outer r c n
+run_in outer inner r c n stays run = record { top = omega arith; bottom = omega arith; left = omega arith; right = omega arith }
+
+-- a run that is written in a part leaves what is outside
+pub run_outside : (L : Lent) (rect : Rect) (r left right : ℕ) (ws : List ℕ) → IsFull L → StaysIn rect L.rect → HasRun rect r left (right - left) → left ≤ right → length ws ≡ (right - left) * L.planes
+  → (r' c p : ℕ) → HasPixel L.rect r' c → (HasPixel rect r' c → ⊥) → p < L.planes → sample_at (with_run L r left (right - left) ws) r' c p ≡ sample_at L r' c p
+run_outside L rect r left right ws full stays run order long r' c p pixel out plane =
+    run_elsewhere L r left (right - left) ws r' c p full (run_in L.rect rect r left (right - left) stays run) long pixel plane
+    (λ row from to. out (record { top = omega arith; bottom = omega arith; left = omega arith; right = omega arith }))
+
+-- what a run that is written leaves of the part
+pub part_run : (L : Lent) (rect : Rect) (r left right : ℕ) (ws : List ℕ) → IsFull L → StaysIn rect L.rect → HasRun rect r left (right - left) → left ≤ right → length ws ≡ (right - left) * L.planes
+  → PutsRun (part_of L rect) (part_of (with_run L r left (right - left) ws) rect) r left right ws
+part_run L rect r left right ws full stays run order long =
+    let whole_run : HasRun L.rect r left (right - left) = run_in L.rect rect r left (right - left) stays run in
+    let wrote : Lent = with_run L r left (right - left) ws in
+    record {
+        written = λ c p from to plane.
+            part_at wrote rect r c p (record { top = omega arith; bottom = omega arith; left = omega arith; right = omega arith }) plane
+            ∙ run_here L r left (right - left) ws c p full whole_run long from (omega arith) plane;
+        others = λ r' c p pixel plane other.
+            part_at wrote rect r' c p pixel plane
+            ∙ run_elsewhere L r left (right - left) ws r' c p full whole_run long (pixel_in L.rect rect r' c stays pixel) plane (λ row from to. other row from (omega arith))
+            ∙ sym (part_at L rect r' c p pixel plane);
+    }
+
+-- a list keeps its length when a part of it is written
+length-put_mid : (a k : ℕ) (xs ys : List ℕ) → a + k ≤ length xs → length ys ≡ k → length (put_mid a k xs ys) ≡ length xs
+length-put_mid a k xs ys within long =
+    omega (arith, length-append (take a xs) (ys ++ post_of a k xs), length-append ys (post_of a k xs), length-take-le a xs (omega arith), length-drop k (drop a xs), length-drop a xs)
+
+-- a whole list is where it was written
+between_mid : (a k : ℕ) (xs ys : List ℕ) → a ≤ length xs → length ys ≡ k → take k (drop a (put_mid a k xs ys)) ≡ ys
+between_mid a k xs ys within long =
+    let back : a + k - a ≡ k = omega arith in
+    rw back at (between-put_mid a k xs ys (a + k) within (rw back long))
+
+-- the row that was written
+pub part_row_written : (L : Lent) (rect : Rect) (r : ℕ) (ws : List ℕ) → IsFull L → StaysIn rect L.rect → HasRow rect r → length ws ≡ width rect * L.planes
+  → row_of (part_of (with_run L r rect.left (rect.right - rect.left) ws) rect) r ≡ ws
+part_row_written L rect r ws full stays row long =
+    let a : ℕ = place_in L.rect L.planes r rect.left 0 in
+    let run : HasRun L.rect r rect.left (width rect) = record { top = omega arith; bottom = omega arith; left = omega arith; right = omega arith } in
+    let fits : a + width rect * L.planes ≤ length L.samples = run_inside L r rect.left (width rect) full run in
+    let wrote : Lent = with_run L r rect.left (rect.right - rect.left) ws in
+    let still : IsFull wrote = length-put_mid a (width rect * L.planes) L.samples ws fits long ∙ full in
+    part_row wrote rect r still stays row
+    ∙ between_mid a (width rect * L.planes) L.samples ws (omega arith) long

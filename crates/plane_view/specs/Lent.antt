@@ -42,6 +42,13 @@ pub record HasRow (rect : Rect) (r : ℕ) : Type 0 where
   pub bottom : r < rect.bottom
   pub cols : rect.left ≤ rect.right
 
+-- n pixels of row r, from column c on, lie in the rectangle
+pub record HasRun (rect : Rect) (r c n : ℕ) : Type 0 where
+  pub top : rect.top ≤ r
+  pub bottom : r < rect.bottom
+  pub left : rect.left ≤ c
+  pub right : c + n ≤ rect.right
+
 -- the first rectangle goes past no edge of the second
 pub record StaysIn (inner outer : Rect) : Type 0 where
   pub top : outer.top ≤ inner.top

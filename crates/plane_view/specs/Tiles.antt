@@ -1,5 +1,5 @@
 -- Tiles: parts of planes lent for writing. This is this project's own.
-use Rattle.std.specs.Prelude.{◌≡◌, ℕ, ◌<◌, List}
+use Rattle.std.specs.Prelude.{◌≡◌, ℕ, ◌+◌, ◌-◌, ◌*◌, ◌<◌, ◌≤◌, List, slice_index}
 use Rattle.std.specs.Borrow.{GName}
 use Rattle.plane_view.specs.declared.Rect.{Rect}
 use Rattle.plane_view.specs.declared.tiles.TileMut.{TileMut}
@@ -30,3 +30,18 @@ pub record SameLoan (old new : TileMut) : Type 0 where
 pub record PutsSample (old new : Lent) (r c p v : ℕ) : Type 0 where
   pub sample : sample_at new r c p ≡ v
   pub others : (r' c' p' : ℕ) → HasPixel old.rect r' c' → p' < old.planes → (r' ≡ r → c' ≡ c → p' ≡ p → ⊥) → sample_at new r' c' p' ≡ sample_at old r' c' p'
+
+-- the samples of the other rows stay
+abbrev pub KeepsOtherRows : (old new : Lent) → ℕ → Type 0
+KeepsOtherRows old new r =
+    (r' c p : ℕ) → HasPixel old.rect r' c → p < old.planes → (r' ≡ r → ⊥) → sample_at new r' c p ≡ sample_at old r' c p
+
+-- the pixels of row r from column left up to column right have these samples, and the others stay
+pub record PutsRun (old new : Lent) (r left right : ℕ) (run : List ℕ) : Type 0 where
+  pub written : (c p : ℕ) → left ≤ c → c < right → p < old.planes → sample_at new r c p ≡ slice_index run ((c - left) * old.planes + p)
+  pub others : (r' c p : ℕ) → HasPixel old.rect r' c → p < old.planes → (r' ≡ r → left ≤ c → c < right → ⊥) → sample_at new r' c p ≡ sample_at old r' c p
+
+-- the samples of the pixels that are in both parts are those of the second, and the others stay
+pub record CopiesFrom (old new from : Lent) : Type 0 where
+  pub copied : (r c p : ℕ) → HasPixel old.rect r c → HasPixel from.rect r c → p < old.planes → sample_at new r c p ≡ sample_at from r c p
+  pub others : (r c p : ℕ) → HasPixel old.rect r c → (HasPixel from.rect r c → ⊥) → p < old.planes → sample_at new r c p ≡ sample_at old r c p

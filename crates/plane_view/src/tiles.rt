@@ -1,7 +1,9 @@
 //! Tiles: lent parts of planes, for writing.
-ghost use Rattle.std.specs.Prelude.{◌≡◌, ℕ, ◌+◌, ◌-◌, ◌*◌, ◌<◌, ◌≤◌, length};
-ghost use Rattle.plane_view.specs.Rectangles.{HasPixel, LiesIn, area_of};
-ghost use Rattle.plane_view.specs.Lent.{Lent, HasRow, StaysIn, sample_at, row_of};
+ghost use Rattle.std.specs.Prelude.{◌≡◌, ℕ, ◌+◌, ◌-◌, ◌*◌, ◌<◌, ◌≤◌, List, length};
+ghost use Rattle.std.specs.Borrow.{MutBor};
+ghost use Rattle.std.specs.Fn.{FnOnceReturnsAtMut};
+ghost use Rattle.plane_view.specs.Rectangles.{HasPixel, LiesIn, width, area_of};
+ghost use Rattle.plane_view.specs.Lent.{Lent, HasRow, HasRun, StaysIn, place_in, sample_at, row_of};
 
 use crate::{Rect, View};
 
@@ -19,7 +21,7 @@ pub struct TileMut<'a> {
 }
 
 impl<'a> TileMut<'a> {
-    ghost use Rattle.plane_view.specs.Tiles.{loan, tile, lent_name, SameLoan, PutsSample};
+    ghost use Rattle.plane_view.specs.Tiles.{loan, tile, lent_name, SameLoan, PutsSample, PutsRun, CopiesFrom, KeepsOtherRows};
 
     /// The tile of all samples of a slice, row by row, the planes of a pixel side by side. When the loan ends, the slice
     /// holds what was written.
@@ -61,5 +63,59 @@ impl<'a> TileMut<'a> {
         let cols = (self.home.right - self.home.left) as usize;
         let pixel = (r - self.home.top) as usize * cols + (c - self.home.left) as usize;
         self.samples[pixel * self.planes as usize + p as usize] = v;
+    }
+
+    /// Hands row `r` to `write`: the slice of its samples, the planes of a pixel side by side.
+    pub fn write_row<F: FnOnce(&mut [u16])>(&mut self, r: u32, write: F)
+        requires row { HasRow (tile self.old).rect r }
+        requires can { (row : MutBor (List ℕ)) → row.now ≡ row_of (tile self.old) r → length row.now ≡ width (tile self.old).rect * (tile self.old).planes → F.pre write row }
+        ensures loan { SameLoan self.old self.new }
+        ensures row { FnOnceReturnsAtMut F.FnOnce write (row_of (tile self.old) r) tt (row_of (tile self.new) r) }
+        ensures others { KeepsOtherRows (tile self.old) (tile self.new) r }
+    {
+        let Rect { left, right, .. } = self.rect;
+        let (start, len) = self.run_at(r, left, right);
+        let samples = &mut *self.samples;
+        write(&mut samples[start..start + len]);
+    }
+
+    /// Writes the samples of the pixels that are in both, and leaves the others.
+    pub fn copy_from(&mut self, from: &View<'_>)
+        requires { from.now.planes ≡ (tile self.old).planes }
+        ensures loan { SameLoan self.old self.new }
+        ensures copies { CopiesFrom (tile self.old) (tile self.new) from.now }
+    {
+        let Some(both) = self.rect.meet(&from.rect()) else {
+            return;
+        };
+        let part = from.sub(both);
+        for r in both.top..both.bottom {
+            self.copy_run(r, both.left, both.right, part.row(r));
+        }
+    }
+
+    fn copy_run(&mut self, r: u32, left: u32, right: u32, run: &[u16])
+        requires pixels { HasRun (tile self.old).rect r left (right - left) }
+        requires order { left ≤ right }
+        requires long { length run.now ≡ (right - left) * (tile self.old).planes }
+        ensures loan { SameLoan self.old self.new }
+        ensures puts { PutsRun (tile self.old) (tile self.new) r left right run.now }
+    {
+        let (start, len) = self.run_at(r, left, right);
+        self.samples[start..start + len].copy_from_slice(run);
+    }
+
+    /// Where the samples of row `r` from column `left` up to column `right` begin, and how many there are.
+    fn run_at(&self, r: u32, left: u32, right: u32) -> (usize, usize)
+        requires pixels { HasRun (tile self.now).rect r left (right - left) }
+        requires order { left ≤ right }
+        ensures start { result.0 ≡ place_in (loan self.now).rect (loan self.now).planes r left 0 }
+        ensures len { result.1 ≡ (right - left) * (loan self.now).planes }
+        ensures within { result.0 + result.1 ≤ length (loan self.now).samples }
+    {
+        let cols = (self.home.right - self.home.left) as usize;
+        let pixel = (r - self.home.top) as usize * cols + (left - self.home.left) as usize;
+        let start = pixel * self.planes as usize;
+        (start, (right - left) as usize * self.planes as usize)
     }
 }
