@@ -1,4 +1,5 @@
 pub mod Crops
+pub mod Loans
 pub mod Parts
 pub mod Samples
 pub mod Writes

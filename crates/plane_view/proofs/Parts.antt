@@ -104,3 +104,22 @@ part_row L rect r full stays row =
     ∙ sym (get_or-take (w * L.planes) (drop at L.samples) k 0 inside
     ∙ get_or-drop at L.samples k 0
     ∙ ap (λ n. get_or L.samples n 0) there))
+
+-- how long a row is
+pub length-row : (L : Lent) (r : ℕ) → IsFull L → HasRow L.rect r → length (row_of L r) ≡ width L.rect * L.planes
+length-row L r full row =
+    let n : ℕ = width L.rect * L.planes in
+    let i : ℕ = r - L.rect.top in
+    let upto : (i + 1) * n ≤ height L.rect * n = mul-le-mul_right n (omega arith) in
+    length-take-le n (drop (i * n) L.samples) (omega (arith, length-drop (i * n) L.samples))
+
+-- a sample of a row
+pub row_at : (L : Lent) (r c p : ℕ) → HasPixel L.rect r c → p < L.planes → get_or (row_of L r) ((c - L.rect.left) * L.planes + p) 0 ≡ sample_at L r c p
+row_at L r c p pixel plane =
+    let w : ℕ = width L.rect in
+    let i : ℕ = r - L.rect.top in
+    let j : ℕ = c - L.rect.left in
+    let next : (j + 1) * L.planes ≤ w * L.planes = mul-le-mul_right L.planes (omega arith) in
+    get_or-take (w * L.planes) (drop (i * (w * L.planes)) L.samples) (j * L.planes + p) 0 (omega arith)
+    ∙ get_or-drop (i * (w * L.planes)) L.samples (j * L.planes + p) 0
+    ∙ (let at : i * (w * L.planes) + (j * L.planes + p) ≡ place_in L.rect L.planes r c p = omega arith in ap (λ n. get_or L.samples n 0) at)
