@@ -65,6 +65,16 @@ impl<'a> TileMut<'a> {
         self.samples[pixel * self.planes as usize + p as usize] = v;
     }
 
+    /// Moves the tile to another rectangle of what was lent: to a part, or back to the whole.
+    pub fn focus(&mut self, rect: Rect)
+        requires { LiesIn rect (loan self.old).rect }
+        ensures slice { lent_name self.new ≡ lent_name self.old }
+        ensures loan { loan self.new ≡ loan self.old }
+        ensures rect { (tile self.new).rect ≡ rect }
+    {
+        self.rect = rect;
+    }
+
     /// Hands row `r` to `write`: the slice of its samples, the planes of a pixel side by side.
     pub fn write_row<F: FnOnce(&mut [u16])>(&mut self, r: u32, write: F)
         requires row { HasRow (tile self.old).rect r }
