@@ -7,13 +7,13 @@ use Rattle.std.proofs.lemmas.List.{get_or-take, get_or-drop, length-take-le, len
 use Rattle.std.proofs.lemmas.Nat.{div-mul-add, mod-mul-add}
 use Rattle.std.proofs.lemmas.Slice.{between-put_mid}
 use borrow.Rule.Slice.PartMut.{put_mid, post_of}
-use Rattle.plane_view.specs.Tiles.{PutsRun}
+use Rattle.plane_view.specs.Tiles.{PutsRun, row_in}
 use Rattle.plane_view.specs.declared.Rect.{Rect}
 use Rattle.plane_view.specs.Plane.{place}
 use Rattle.plane_view.specs.Rectangles.{HasPixel, height, width}
-use Rattle.plane_view.specs.Lent.{Lent, place_in, sample_at, part_of, row_of, HasRow, HasRun, IsFull, StaysIn}
+use Rattle.plane_view.specs.Lent.{Lent, place_in, sample_at, HasRow, HasRun, IsFull, StaysIn}
 use Rattle.plane_view.proofs.Samples.{place_below}
-use Rattle.plane_view.proofs.Parts.{part_at, part_row}
+use Rattle.plane_view.proofs.Parts.{part_row_inside}
 
 -- a pixel of a part is one of the lender
 pub pixel_in : (outer inner : Rect) (r c : ℕ) → StaysIn inner outer → HasPixel inner r c → HasPixel outer r c
@@ -157,20 +157,15 @@ run_outside L rect r left right ws full stays run order long r' c p pixel out pl
     run_elsewhere L r left (right - left) ws r' c p full (run_in L.rect rect r left (right - left) stays run) long pixel plane
     (λ row from to. out (record { top = omega arith; bottom = omega arith; left = omega arith; right = omega arith }))
 
--- what a run that is written leaves of the part
+-- what a run that is written in a part leaves
 pub part_run : (L : Lent) (rect : Rect) (r left right : ℕ) (ws : List ℕ) → IsFull L → StaysIn rect L.rect → HasRun rect r left (right - left) → left ≤ right → length ws ≡ (right - left) * L.planes
-  → PutsRun (part_of L rect) (part_of (with_run L r left (right - left) ws) rect) r left right ws
+  → PutsRun L (with_run L r left (right - left) ws) r left right ws
 part_run L rect r left right ws full stays run order long =
     let whole_run : HasRun L.rect r left (right - left) = run_in L.rect rect r left (right - left) stays run in
-    let wrote : Lent = with_run L r left (right - left) ws in
     record {
-        written = λ c p from to plane.
-            part_at wrote rect r c p (record { top = omega arith; bottom = omega arith; left = omega arith; right = omega arith }) plane
-            ∙ run_here L r left (right - left) ws c p full whole_run long from (omega arith) plane;
+        written = λ c p from to plane. run_here L r left (right - left) ws c p full whole_run long from (omega arith) plane;
         others = λ r' c p pixel plane other.
-            part_at wrote rect r' c p pixel plane
-            ∙ run_elsewhere L r left (right - left) ws r' c p full whole_run long (pixel_in L.rect rect r' c stays pixel) plane (λ row from to. other row from (omega arith))
-            ∙ sym (part_at L rect r' c p pixel plane);
+            run_elsewhere L r left (right - left) ws r' c p full whole_run long pixel plane (λ row from to. other row from (omega arith));
     }
 
 -- a list keeps its length when a part of it is written
@@ -185,13 +180,29 @@ between_mid a k xs ys within long =
     rw back at (between-put_mid a k xs ys (a + k) within (rw back long))
 
 -- the row that was written
-pub part_row_written : (L : Lent) (rect : Rect) (r : ℕ) (ws : List ℕ) → IsFull L → StaysIn rect L.rect → HasRow rect r → length ws ≡ width rect * L.planes
-  → row_of (part_of (with_run L r rect.left (rect.right - rect.left) ws) rect) r ≡ ws
-part_row_written L rect r ws full stays row long =
+pub row_written : (L : Lent) (rect : Rect) (r : ℕ) (ws : List ℕ) → IsFull L → StaysIn rect L.rect → HasRow rect r → length ws ≡ width rect * L.planes
+  → row_in (with_run L r rect.left (rect.right - rect.left) ws) rect r ≡ ws
+row_written L rect r ws full stays row long =
     let a : ℕ = place_in L.rect L.planes r rect.left 0 in
     let run : HasRun L.rect r rect.left (width rect) = record { top = omega arith; bottom = omega arith; left = omega arith; right = omega arith } in
     let fits : a + width rect * L.planes ≤ length L.samples = run_inside L r rect.left (width rect) full run in
-    let wrote : Lent = with_run L r rect.left (rect.right - rect.left) ws in
-    let still : IsFull wrote = length-put_mid a (width rect * L.planes) L.samples ws fits long ∙ full in
-    part_row wrote rect r still stays row
-    ∙ between_mid a (width rect * L.planes) L.samples ws (omega arith) long
+    between_mid a (width rect * L.planes) L.samples ws (omega arith) long
+
+-- a sample of a row of a rectangle
+pub row_in_at : (L : Lent) (rect : Rect) (r c p : ℕ) → StaysIn rect L.rect → HasPixel rect r c → p < L.planes → get_or (row_in L rect r) ((c - rect.left) * L.planes + p) 0 ≡ sample_at L r c p
+row_in_at L rect r c p stays pixel plane =
+    let w : ℕ = width rect in
+    let j : ℕ = c - rect.left in
+    let at : ℕ = place_in L.rect L.planes r rect.left 0 in
+    let next : (j + 1) * L.planes ≤ w * L.planes = mul-le-mul_right L.planes (omega arith) in
+    let col : c - L.rect.left ≡ rect.left - L.rect.left + j = omega arith in
+    let there : at + (j * L.planes + p) ≡ place_in L.rect L.planes r c p = rw col (omega arith) in
+    get_or-take (w * L.planes) (drop at L.samples) (j * L.planes + p) 0 (omega arith)
+    ∙ get_or-drop at L.samples (j * L.planes + p) 0
+    ∙ ap (λ n. get_or L.samples n 0) there
+
+-- how long a row of a rectangle is
+pub length-row_in : (L : Lent) (rect : Rect) (r : ℕ) → IsFull L → StaysIn rect L.rect → HasRow rect r → length (row_in L rect r) ≡ width rect * L.planes
+length-row_in L rect r full stays row =
+    let at : ℕ = place_in L.rect L.planes r rect.left 0 in
+    length-take-le (width rect * L.planes) (drop at L.samples) (omega (arith, length-drop at L.samples, part_row_inside L rect r full stays row))

@@ -27,5 +27,5 @@ returns-clause-puts c =
     let len : c.run_at-start.result.0 + c.run_at-start.result.1 - c.run_at-start.result.0 ≡ n * t.planes = omega arith in
     let same : put_mid (place_in t.home t.planes c.args.r c.args.left 0) (n * t.planes) t.samples.now c.args.run.now ≡ put_mid c.run_at-start.result.0 (c.run_at-start.result.0 + c.run_at-start.result.1 - c.run_at-start.result.0) t.samples.now c.copy_from_slice.new.self =
         rw (len, c.run_at-start.ensures.start, c.copy_from_slice.ensures.after) refl in
-    subst (λ (xs : List ℕ). PutsRun (part_of (loan t) t.rect) (part_of (with_samples (loan t) xs) t.rect) c.args.r c.args.left c.args.right c.args.run.now) same
+    subst (λ (xs : List ℕ). PutsRun (loan t) (with_samples (loan t) xs) c.args.r c.args.left c.args.right c.args.run.now) same
     (part_run (loan t) t.rect c.args.r c.args.left c.args.right c.args.run.now t.long t.inside c.requires.pixels c.requires.order c.requires.long)

@@ -27,11 +27,7 @@ returns-clause-put c =
     let t = c.args.self.now in
     let lent : Lent = loan t in
     let pixel : HasPixel t.home c.args.r c.args.c = pixel_in t.home t.rect c.args.r c.args.c t.inside c.requires.pixel in
-    let wrote : Lent = with_samples lent (set lent.samples (place_in lent.rect lent.planes c.args.r c.args.c c.args.p) c.args.v) in
     record {
-        sample = part_at wrote t.rect c.args.r c.args.c c.args.p c.requires.pixel c.requires.plane ∙ put_here lent c.args.r c.args.c c.args.p c.args.v t.long pixel c.requires.plane;
-        others = λ r' c' p' pixel' plane' other.
-            part_at wrote t.rect r' c' p' pixel' plane'
-            ∙ put_elsewhere lent c.args.r c.args.c c.args.p c.args.v r' c' p' pixel c.requires.plane (pixel_in t.home t.rect r' c' t.inside pixel') plane' other
-            ∙ sym (part_at lent t.rect r' c' p' pixel' plane');
+        sample = put_here lent c.args.r c.args.c c.args.p c.args.v t.long pixel c.requires.plane;
+        others = λ r' c' p' pixel' plane' other. put_elsewhere lent c.args.r c.args.c c.args.p c.args.v r' c' p' pixel c.requires.plane pixel' plane' other;
     }
