@@ -9,6 +9,9 @@ mod views;
 pub use tiles::TileMut;
 pub use views::View;
 
+#[cfg(test)]
+mod tests;
+
 ghost use Rattle.std.specs.Prelude.{◌≡◌, ℕ, ◌+◌, ◌-◌, ◌*◌, ◌<◌, ◌≤◌, ◌^◌, ◌↔◌, pos, negsuc, ◌≤ℤ◌, IsTrue, IsNone, IfSome, false};
 ghost use Rattle.plane_view.specs.Rectangles.{HasPixel, IsNonEmpty, LiesIn, area_of, grown, shifted, whole_rect};
 ghost use Rattle.plane_view.specs.Reflect.{reflected};

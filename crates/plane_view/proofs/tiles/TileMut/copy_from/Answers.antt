@@ -22,7 +22,7 @@ loop-r-init c =
 pub copy_run-requires-clause-long : goal.copy_run-requires-clause-long
 copy_run-requires-clause-long c =
     let part : Lent = part_of c.args.from.now c.in-Some.both in
-    let row : c.row.result.now ≡ row_of part c.loop-r.r = c.row.ensures ∙ ap (λ (V : Lent). row_of V c.loop-r.r) c.sub-part.ensures in
+    let row : c.row.result.now ≡ row_of part c.loop-r.r = c.row.ensures.row ∙ ap (λ (V : Lent). row_of V c.loop-r.r) c.sub-part.ensures in
     let planes : c.args.from.now.planes ≡ c.loop-r.self.planes = c.requires ∙ sym c.loop-r.invariant.same.planes in
     let some = c.in-Some.ensures.some in
     let has : HasRow c.in-Some.both c.loop-r.r = record { top = omega arith; bottom = omega arith; cols = omega arith } in
@@ -33,7 +33,7 @@ loop-r-preserved c =
     let V : Lent = c.args.from.now in
     let both : Rect = c.in-Some.both in
     let part : Lent = part_of V both in
-    let row : c.row.result.now ≡ row_of part c.loop-r.r = c.row.ensures ∙ ap (λ (V : Lent). row_of V c.loop-r.r) c.sub-part.ensures in
+    let row : c.row.result.now ≡ row_of part c.loop-r.r = c.row.ensures.row ∙ ap (λ (V : Lent). row_of V c.loop-r.r) c.sub-part.ensures in
     let planes : c.args.from.now.planes ≡ c.loop-r.self.planes = c.requires ∙ sym c.loop-r.invariant.same.planes in
     let now_home : (r c' : ℕ) → HasPixel c.args.self.now.home r c' → HasPixel c.loop-r.self.home r c' =
         λ r c' inside. subst (λ (x : Rect). HasPixel x r c') (sym c.loop-r.invariant.same.home) inside in

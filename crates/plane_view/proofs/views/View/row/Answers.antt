@@ -21,8 +21,8 @@ slice_bounds-result-end c =
     let inside : place_in v.home v.planes c.args.r v.rect.left 0 + width v.rect * v.planes ≤ length v.samples.now = part_row_inside lender v.rect c.args.r c.self.invariant.1 c.self.invariant.0 row in
     search (rules, inside)
 
-pub returns : goal.returns
-returns c =
+pub returns-clause-row : goal.returns-clause-row
+returns-clause-row c =
     let v = c.self.inside in
     let lender : Lent = record { rect = v.home; planes = v.planes; samples = v.samples.now } in
     let start = place_in v.home v.planes c.args.r v.rect.left 0 in
