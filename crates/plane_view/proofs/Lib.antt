@@ -1,3 +1,4 @@
+pub mod Agreement
 pub mod Crops
 pub mod Loans
 pub mod Parts

@@ -1,5 +1,5 @@
 -- What a write to the samples of a part leaves: one sample, and a run of pixels in a row.
-use Rattle.std.proofs.Common.{◌≡◌, ◌≢◌, ℕ, ◌+◌, ◌-◌, ◌*◌, ◌/◌, ◌%◌, ◌<◌, ◌≤◌, ◌⊎◌, inl, inr, ⊎_elim, List, ◌++◌, length, get_or, take, drop, refl, sym, ◌∙◌, ap, subst, arith}
+use Rattle.std.proofs.Common.{◌≡◌, ℕ, ◌+◌, ◌-◌, ◌*◌, ◌/◌, ◌%◌, ◌<◌, ◌≤◌, ◌⊎◌, inl, inr, ⊎_elim, List, ◌++◌, length, get_or, take, drop, sym, ◌∙◌, ap, arith}
 use Rattle.std.proofs.Math.ListN.{set, get_or-append}
 use Rattle.std.proofs.Math.Nat.{mul-le-mul_right}
 use Rattle.std.proofs.lemmas.Bool.{cases_lt}
@@ -27,10 +27,11 @@ place_in_below L r c p full pixel plane =
 -- two pixels, or two planes, are at two places
 pub same_place : (cols planes r c p r' c' p' : ℕ) → c < cols → c' < cols → p < planes → p' < planes → place cols planes r' c' p' ≡ place cols planes r c p → (r' ≡ r) × (c' ≡ c) × (p' ≡ p)
 same_place cols planes r c p r' c' p' hc hc' hp hp' same =
-    let pixel : r' * cols + c' ≡ r * cols + c = sym (div-mul-add (r' * cols + c') planes p' hp') ∙ ap (λ n. n / planes) same ∙ div-mul-add (r * cols + c) planes p hp in
-    (sym (div-mul-add r' cols c' hc') ∙ ap (λ n. n / cols) pixel ∙ div-mul-add r cols c hc,
-    sym (mod-mul-add r' cols c' hc') ∙ ap (λ n. n % cols) pixel ∙ mod-mul-add r cols c hc,
-    sym (mod-mul-add (r' * cols + c') planes p' hp') ∙ ap (λ n. n % planes) same ∙ mod-mul-add (r * cols + c) planes p hp)
+    let pixel : r' * cols + c' ≡ r * cols + c = sym (div-mul-add (r' * cols + c') planes p' hp') ∙ ap (λ n. n / planes) same ∙ div-mul-add (r * cols + c) planes p hp in (
+      sym (div-mul-add r' cols c' hc') ∙ ap (λ n. n / cols) pixel ∙ div-mul-add r cols c hc,
+      sym (mod-mul-add r' cols c' hc') ∙ ap (λ n. n % cols) pixel ∙ mod-mul-add r cols c hc,
+      sym (mod-mul-add (r' * cols + c') planes p' hp') ∙ ap (λ n. n % planes) same ∙ mod-mul-add (r * cols + c) planes p hp,
+    )
 
 -- a part with other samples
 abbrev pub with_samples : Lent → List ℕ → Lent
@@ -42,7 +43,7 @@ put_here L r c p v full pixel plane = get_or-set_same L.samples (place_in L.rect
 
 -- another one stays
 pub put_elsewhere : (L : Lent) (r c p v r' c' p' : ℕ) → HasPixel L.rect r c → p < L.planes → HasPixel L.rect r' c' → p' < L.planes → (r' ≡ r → c' ≡ c → p' ≡ p → ⊥)
-  → sample_at (with_samples L (set L.samples (place_in L.rect L.planes r c p) v)) r' c' p' ≡ sample_at L r' c' p'
+    → sample_at (with_samples L (set L.samples (place_in L.rect L.planes r c p) v)) r' c' p' ≡ sample_at L r' c' p'
 put_elsewhere L r c p v r' c' p' pixel plane pixel' plane' other =
     get_or-set_other L.samples (place_in L.rect L.planes r c p) (place_in L.rect L.planes r' c' p') v 0
     (λ same.
@@ -87,7 +88,7 @@ with_run L r c n ws = with_samples L (put_mid (place_in L.rect L.planes r c 0) (
 
 -- a sample of the run that was written
 pub run_here : (L : Lent) (r c n : ℕ) (ws : List ℕ) (c' p : ℕ) → IsFull L → HasRun L.rect r c n → length ws ≡ n * L.planes → c ≤ c' → c' < c + n → p < L.planes
-  → sample_at (with_run L r c n ws) r c' p ≡ get_or ws ((c' - c) * L.planes + p) 0
+    → sample_at (with_run L r c n ws) r c' p ≡ get_or ws ((c' - c) * L.planes + p) 0
 run_here L r c n ws c' p full run long from to plane =
     let a : ℕ = place_in L.rect L.planes r c 0 in
     let next : (c' - c + 1) * L.planes ≤ n * L.planes = mul-le-mul_right L.planes (omega arith) in
@@ -100,8 +101,8 @@ run_here L r c n ws c' p full run long from to plane =
 place_before : (cols planes r c p r' c' : ℕ) → c < cols → p < planes → (r < r') ⊎ ((r ≡ r') × (c < c')) → place cols planes r c p < place cols planes r' c' 0
 place_before cols planes r c p r' c' hc hp order =
     let pixel : r * cols + c + 1 ≤ r' * cols + c' =
-        ⊎_elim (λ (earlier : r < r'). let rows : (r + 1) * cols ≤ r' * cols = mul-le-mul_right cols (omega arith) in omega arith)
-        (λ (same : (r ≡ r') × (c < c')). let row : r * cols ≡ r' * cols = ap (λ n. n * cols) same.0 in let col : c < c' = same.1 in omega arith) order in
+    ⊎_elim (λ (earlier : r < r'). let rows : (r + 1) * cols ≤ r' * cols = mul-le-mul_right cols (omega arith) in omega arith)
+    (λ (same : (r ≡ r') × (c < c')). let row : r * cols ≡ r' * cols = ap (λ n. n * cols) same.0 in let col : c < c' = same.1 in omega arith) order in
     let samples : (r * cols + c + 1) * planes ≤ (r' * cols + c') * planes = mul-le-mul_right planes pixel in
     omega arith
 
@@ -109,22 +110,22 @@ place_before cols planes r c p r' c' hc hp order =
 place_after : (cols planes r c n r' c' p' : ℕ) → c + n ≤ cols → (r < r') ⊎ ((r ≡ r') × (c + n ≤ c')) → place cols planes r c 0 + n * planes ≤ place cols planes r' c' p'
 place_after cols planes r c n r' c' p' hc order =
     let pixel : r * cols + c + n ≤ r' * cols + c' =
-        ⊎_elim (λ (later : r < r'). let rows : (r + 1) * cols ≤ r' * cols = mul-le-mul_right cols (omega arith) in omega arith)
-        (λ (same : (r ≡ r') × (c + n ≤ c')). let row : r * cols ≡ r' * cols = ap (λ n. n * cols) same.0 in let col : c + n ≤ c' = same.1 in omega arith) order in
+    ⊎_elim (λ (later : r < r'). let rows : (r + 1) * cols ≤ r' * cols = mul-le-mul_right cols (omega arith) in omega arith)
+    (λ (same : (r ≡ r') × (c + n ≤ c')). let row : r * cols ≡ r' * cols = ap (λ n. n * cols) same.0 in let col : c + n ≤ c' = same.1 in omega arith) order in
     let samples : (r * cols + c + n) * planes ≤ (r' * cols + c') * planes = mul-le-mul_right planes pixel in
     omega arith
 
 -- another sample stays
 pub run_elsewhere : (L : Lent) (r c n : ℕ) (ws : List ℕ) (r' c' p' : ℕ) → IsFull L → HasRun L.rect r c n → length ws ≡ n * L.planes → HasPixel L.rect r' c' → p' < L.planes → (r' ≡ r → c ≤ c' → c' < c + n → ⊥)
-  → sample_at (with_run L r c n ws) r' c' p' ≡ sample_at L r' c' p'
+    → sample_at (with_run L r c n ws) r' c' p' ≡ sample_at L r' c' p'
 run_elsewhere L r c n ws r' c' p' full run long pixel plane other =
     let w : ℕ = width L.rect in
     let a : ℕ = place_in L.rect L.planes r c 0 in
     let fits : a + n * L.planes ≤ length L.samples = run_inside L r c n full run in
     let before : place_in L.rect L.planes r' c' p' < a → sample_at (with_run L r c n ws) r' c' p' ≡ sample_at L r' c' p' =
-        λ below. before_mid a (n * L.planes) L.samples ws (place_in L.rect L.planes r' c' p') below (omega arith) in
+    λ below. before_mid a (n * L.planes) L.samples ws (place_in L.rect L.planes r' c' p') below (omega arith) in
     let after : a + n * L.planes ≤ place_in L.rect L.planes r' c' p' → sample_at (with_run L r c n ws) r' c' p' ≡ sample_at L r' c' p' =
-        λ above. after_mid a (n * L.planes) L.samples ws (place_in L.rect L.planes r' c' p') (omega arith) long above in
+    λ above. after_mid a (n * L.planes) L.samples ws (place_in L.rect L.planes r' c' p') (omega arith) long above in
     let i : ℕ = r - L.rect.top in
     let j : ℕ = c - L.rect.left in
     let i' : ℕ = r' - L.rect.top in
@@ -152,20 +153,20 @@ run_in outer inner r c n stays run = record { top = omega arith; bottom = omega 
 
 -- a run that is written in a part leaves what is outside
 pub run_outside : (L : Lent) (rect : Rect) (r left right : ℕ) (ws : List ℕ) → IsFull L → StaysIn rect L.rect → HasRun rect r left (right - left) → left ≤ right → length ws ≡ (right - left) * L.planes
-  → (r' c p : ℕ) → HasPixel L.rect r' c → (HasPixel rect r' c → ⊥) → p < L.planes → sample_at (with_run L r left (right - left) ws) r' c p ≡ sample_at L r' c p
+    → (r' c p : ℕ) → HasPixel L.rect r' c → (HasPixel rect r' c → ⊥) → p < L.planes → sample_at (with_run L r left (right - left) ws) r' c p ≡ sample_at L r' c p
 run_outside L rect r left right ws full stays run order long r' c p pixel out plane =
     run_elsewhere L r left (right - left) ws r' c p full (run_in L.rect rect r left (right - left) stays run) long pixel plane
     (λ row from to. out (record { top = omega arith; bottom = omega arith; left = omega arith; right = omega arith }))
 
 -- what a run that is written in a part leaves
 pub part_run : (L : Lent) (rect : Rect) (r left right : ℕ) (ws : List ℕ) → IsFull L → StaysIn rect L.rect → HasRun rect r left (right - left) → left ≤ right → length ws ≡ (right - left) * L.planes
-  → PutsRun L (with_run L r left (right - left) ws) r left right ws
+    → PutsRun L (with_run L r left (right - left) ws) r left right ws
 part_run L rect r left right ws full stays run order long =
     let whole_run : HasRun L.rect r left (right - left) = run_in L.rect rect r left (right - left) stays run in
     record {
-        written = λ c p from to plane. run_here L r left (right - left) ws c p full whole_run long from (omega arith) plane;
-        others = λ r' c p pixel plane other.
-            run_elsewhere L r left (right - left) ws r' c p full whole_run long pixel plane (λ row from to. other row from (omega arith));
+      written = λ c p from to plane. run_here L r left (right - left) ws c p full whole_run long from (omega arith) plane;
+      others = λ r' c p pixel plane other.
+          run_elsewhere L r left (right - left) ws r' c p full whole_run long pixel plane (λ row from to. other row from (omega arith));
     }
 
 -- a list keeps its length when a part of it is written
@@ -181,7 +182,7 @@ between_mid a k xs ys within long =
 
 -- the row that was written
 pub row_written : (L : Lent) (rect : Rect) (r : ℕ) (ws : List ℕ) → IsFull L → StaysIn rect L.rect → HasRow rect r → length ws ≡ width rect * L.planes
-  → row_in (with_run L r rect.left (rect.right - rect.left) ws) rect r ≡ ws
+    → row_in (with_run L r rect.left (rect.right - rect.left) ws) rect r ≡ ws
 row_written L rect r ws full stays row long =
     let a : ℕ = place_in L.rect L.planes r rect.left 0 in
     let run : HasRun L.rect r rect.left (width rect) = record { top = omega arith; bottom = omega arith; left = omega arith; right = omega arith } in

@@ -3,7 +3,7 @@
 use Rattle.std.specs.Prelude.{◌≡◌, ℕ, ◌+◌, ◌-◌, ◌*◌, ◌<◌, ◌≤◌, List, length, take, drop, slice_index}
 use Rattle.plane_view.specs.declared.Rect.{Rect}
 use Rattle.plane_view.specs.Plane.{Plane, place, sample, samples_of, crop}
-use Rattle.plane_view.specs.Rectangles.{HasPixel, LiesIn, height, width, area_of}
+use Rattle.plane_view.specs.Rectangles.{HasPixel, height, width, area_of}
 
 -- a rectangle, a number of planes, and the samples of the rectangle's pixels
 pub record Lent : Type 0 where

@@ -22,7 +22,11 @@ fn meets(rt: HostRuntime) {
         (rect(0, 0, 2, 2), rect(2, 0, 4, 2), None),
         (rect(0, 0, 2, 2), rect(0, 2, 2, 4), None),
         (rect(3, 3, 3, 9), rect(0, 0, 9, 9), None),
-        (rect(0, 0, MAX, MAX), rect(MAX - 1, 7, MAX, MAX), Some(rect(MAX - 1, 7, MAX, MAX))),
+        (
+            rect(0, 0, MAX, MAX),
+            rect(MAX - 1, 7, MAX, MAX),
+            Some(rect(MAX - 1, 7, MAX, MAX)),
+        ),
     ];
     for (a, b, both) in cases {
         assert_eq!(rt; a.meet(&b), both);
@@ -65,7 +69,10 @@ fn measures_and_shifts(rt: HostRuntime) {
     for (r, area) in cases {
         assert_eq!(rt; r.area(), area);
     }
-    assert_eq!(rt; rect(0, 0, 1, 1).shift(MAX - 1, 2), rect(MAX - 1, 2, MAX, 3));
+    assert_eq!(rt;
+        rect(0, 0, 1, 1).shift(MAX - 1, 2),
+        rect(MAX - 1, 2, MAX, 3)
+    );
     let shape = Shape {
         rows: 4,
         cols: 6,

@@ -3,9 +3,8 @@ ghost use Rattle.std.specs.Prelude.{◌≡◌, ℕ, ◌+◌, ◌-◌, ◌*◌, �
 ghost use Rattle.plane_view.specs.Rectangles.{HasPixel, LiesIn, width, area_of};
 ghost use Rattle.plane_view.specs.Lent.{Lent, HasRow, sample_at, row_of, part_of};
 
-use std::marker::Model;
-
 use crate::Rect;
+use std::marker::Model;
 
 /// A rectangle, a number of planes, and the lent samples of the rectangle's pixels.
 ///
@@ -77,7 +76,8 @@ impl<'a> View<'a> {
         ensures len { length result.now ≡ width self.now.rect * self.now.planes }
     {
         let cols = (self.home.right - self.home.left) as usize;
-        let pixel = (r - self.home.top) as usize * cols + (self.rect.left - self.home.left) as usize;
+        let pixel = (r - self.home.top) as usize * cols
+            + (self.rect.left - self.home.left) as usize;
         let start = pixel * self.planes as usize;
         let len = (self.rect.right - self.rect.left) as usize * self.planes as usize;
         &self.samples[start..start + len]

@@ -1,5 +1,4 @@
-use Rattle.std.proofs.Common.{◌≡◌, ◌+◌, ◌-◌, ◌*◌, ◌≤◌, length, arith}
-use Rattle.plane_view.specs.Lent.{place_in}
+use Rattle.std.proofs.Common.{◌-◌, arith}
 use Rattle.plane_view.specs.Tiles.{loan}
 use Rattle.plane_view.proofs.Writes.{run_in, run_inside}
 use Rattle.plane_view.proofs.tiles.TileMut.run_at.Goals as goal
