@@ -1,12 +1,12 @@
 -- Laws of lent parts: the samples of a part, of its rows, and of a part of it.
-use Rattle.std.proofs.Common.{◌≡◌, ℕ, zero-add, ◌+◌, ◌-◌, ◌*◌, ◌<◌, ◌≤◌, List, length, get_or, take, drop, refl, sym, ◌∙◌, ap, subst, arith}
+use Rattle.std.proofs.Common.{◌≡◌, ℕ, ◌+◌, ◌-◌, ◌*◌, ◌<◌, ◌≤◌, List, length, get_or, take, drop, refl, sym, ◌∙◌, ap, arith}
 use Rattle.std.proofs.Math.Nat.{mul-le-mul_right}
 use Rattle.std.proofs.lemmas.List.{get_or-take, get_or-drop, length-take-le, length-drop}
 use Rattle.plane_view.specs.declared.Rect.{Rect}
-use Rattle.plane_view.specs.Plane.{Plane, place, sample, samples_of, IsWhole, crop}
-use Rattle.plane_view.specs.Rectangles.{HasPixel, LiesIn, height, width, area_of}
-use Rattle.plane_view.specs.Lent.{Lent, place_in, sample_at, lent_of, part_of, row_of, lent_crop, HasRow, StaysIn, IsFull, AgreesWith}
-use Rattle.plane_view.proofs.Samples.{length-samples_of, place_below, get_or-samples_of, same_samples}
+use Rattle.plane_view.specs.Plane.{place, samples_of}
+use Rattle.plane_view.specs.Rectangles.{HasPixel, LiesIn, height, width}
+use Rattle.plane_view.specs.Lent.{Lent, place_in, sample_at, lent_of, part_of, row_of, HasRow, StaysIn, IsFull}
+use Rattle.plane_view.proofs.Samples.{length-samples_of, get_or-samples_of, same_samples}
 
 -- planes whose samples agree at each place have the same samples
 pub samples_of_same : (rows cols planes : ℕ) (f g : ℕ → ℕ → ℕ → ℕ) → ((r c p : ℕ) → r < rows → c < cols → p < planes → f r c p ≡ g r c p) → samples_of rows cols planes f ≡ samples_of rows cols planes g
@@ -74,7 +74,7 @@ part_row_inside L rect r full stays row =
 
 -- a row of a part stands among the lender's samples
 pub part_row : (L : Lent) (rect : Rect) (r : ℕ) → IsFull L → StaysIn rect L.rect → HasRow rect r
-  → row_of (part_of L rect) r ≡ take (width rect * L.planes) (drop (place_in L.rect L.planes r rect.left 0) L.samples)
+    → row_of (part_of L rect) r ≡ take (width rect * L.planes) (drop (place_in L.rect L.planes r rect.left 0) L.samples)
 part_row L rect r full stays row =
     let w : ℕ = width rect in
     let i : ℕ = r - rect.top in
@@ -104,3 +104,22 @@ part_row L rect r full stays row =
     ∙ sym (get_or-take (w * L.planes) (drop at L.samples) k 0 inside
     ∙ get_or-drop at L.samples k 0
     ∙ ap (λ n. get_or L.samples n 0) there))
+
+-- how long a row is
+pub length-row : (L : Lent) (r : ℕ) → IsFull L → HasRow L.rect r → length (row_of L r) ≡ width L.rect * L.planes
+length-row L r full row =
+    let n : ℕ = width L.rect * L.planes in
+    let i : ℕ = r - L.rect.top in
+    let upto : (i + 1) * n ≤ height L.rect * n = mul-le-mul_right n (omega arith) in
+    length-take-le n (drop (i * n) L.samples) (omega (arith, length-drop (i * n) L.samples))
+
+-- a sample of a row
+pub row_at : (L : Lent) (r c p : ℕ) → HasPixel L.rect r c → p < L.planes → get_or (row_of L r) ((c - L.rect.left) * L.planes + p) 0 ≡ sample_at L r c p
+row_at L r c p pixel plane =
+    let w : ℕ = width L.rect in
+    let i : ℕ = r - L.rect.top in
+    let j : ℕ = c - L.rect.left in
+    let next : (j + 1) * L.planes ≤ w * L.planes = mul-le-mul_right L.planes (omega arith) in
+    get_or-take (w * L.planes) (drop (i * (w * L.planes)) L.samples) (j * L.planes + p) 0 (omega arith)
+    ∙ get_or-drop (i * (w * L.planes)) L.samples (j * L.planes + p) 0
+    ∙ (let at : i * (w * L.planes) + (j * L.planes + p) ≡ place_in L.rect L.planes r c p = omega arith in ap (λ n. get_or L.samples n 0) at)

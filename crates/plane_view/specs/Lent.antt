@@ -3,7 +3,7 @@
 use Rattle.std.specs.Prelude.{◌≡◌, ℕ, ◌+◌, ◌-◌, ◌*◌, ◌<◌, ◌≤◌, List, length, take, drop, slice_index}
 use Rattle.plane_view.specs.declared.Rect.{Rect}
 use Rattle.plane_view.specs.Plane.{Plane, place, sample, samples_of, crop}
-use Rattle.plane_view.specs.Rectangles.{HasPixel, LiesIn, height, width, area_of}
+use Rattle.plane_view.specs.Rectangles.{HasPixel, height, width, area_of}
 
 -- a rectangle, a number of planes, and the samples of the rectangle's pixels
 pub record Lent : Type 0 where
@@ -41,6 +41,13 @@ pub record HasRow (rect : Rect) (r : ℕ) : Type 0 where
   pub top : rect.top ≤ r
   pub bottom : r < rect.bottom
   pub cols : rect.left ≤ rect.right
+
+-- n pixels of row r, from column c on, lie in the rectangle
+pub record HasRun (rect : Rect) (r c n : ℕ) : Type 0 where
+  pub top : rect.top ≤ r
+  pub bottom : r < rect.bottom
+  pub left : rect.left ≤ c
+  pub right : c + n ≤ rect.right
 
 -- the first rectangle goes past no edge of the second
 pub record StaysIn (inner outer : Rect) : Type 0 where

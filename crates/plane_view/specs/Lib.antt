@@ -3,3 +3,4 @@ pub mod Plane
 pub mod Rectangles
 pub mod Reflect
 pub mod Shapes
+pub mod Tiles

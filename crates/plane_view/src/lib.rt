@@ -3,9 +3,14 @@
 //! A plane has its samples row by row, the samples of a pixel side by side. No call takes memory.
 #![tactic(auto)]
 
+mod tiles;
 mod views;
 
+pub use tiles::TileMut;
 pub use views::View;
+
+#[cfg(test)]
+mod tests;
 
 ghost use Rattle.std.specs.Prelude.{◌≡◌, ℕ, ◌+◌, ◌-◌, ◌*◌, ◌<◌, ◌≤◌, ◌^◌, ◌↔◌, pos, negsuc, ◌≤ℤ◌, IsTrue, IsNone, IfSome, false};
 ghost use Rattle.plane_view.specs.Rectangles.{HasPixel, IsNonEmpty, LiesIn, area_of, grown, shifted, whole_rect};

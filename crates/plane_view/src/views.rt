@@ -1,11 +1,10 @@
 //! Views: lent parts of planes, for reading.
 ghost use Rattle.std.specs.Prelude.{◌≡◌, ℕ, ◌+◌, ◌-◌, ◌*◌, ◌<◌, ◌≤◌, length};
-ghost use Rattle.plane_view.specs.Rectangles.{HasPixel, LiesIn, area_of};
+ghost use Rattle.plane_view.specs.Rectangles.{HasPixel, LiesIn, width, area_of};
 ghost use Rattle.plane_view.specs.Lent.{Lent, HasRow, sample_at, row_of, part_of};
 
-use std::marker::Model;
-
 use crate::Rect;
+use std::marker::Model;
 
 /// A rectangle, a number of planes, and the lent samples of the rectangle's pixels.
 ///
@@ -73,10 +72,12 @@ impl<'a> View<'a> {
     /// The samples of row `r`, the planes of a pixel side by side.
     pub fn row(&self, r: u32) -> &[u16]
         requires { HasRow self.now.rect r }
-        ensures { result.now ≡ row_of self.now r }
+        ensures row { result.now ≡ row_of self.now r }
+        ensures len { length result.now ≡ width self.now.rect * self.now.planes }
     {
         let cols = (self.home.right - self.home.left) as usize;
-        let pixel = (r - self.home.top) as usize * cols + (self.rect.left - self.home.left) as usize;
+        let pixel = (r - self.home.top) as usize * cols
+            + (self.rect.left - self.home.left) as usize;
         let start = pixel * self.planes as usize;
         let len = (self.rect.right - self.rect.left) as usize * self.planes as usize;
         &self.samples[start..start + len]

@@ -1,4 +1,3 @@
-use Rattle.plane_view.specs.Lent.{Lent}
 use Rattle.plane_view.proofs.Parts.{part_whole}
 use Rattle.plane_view.proofs.views.View.new.Goals as goal
 

@@ -1,0 +1,57 @@
+-- Laws of tiles: one write after another, and the end of a loan.
+use Rattle.std.proofs.Common.{◌≡◌, ℕ, ◌+◌, ◌-◌, ◌*◌, ◌<◌, ◌≤◌, ⊎_elim, get_or, refl, sym, ◌∙◌, ap, subst, arith}
+use Rattle.std.proofs.lemmas.Bool.{cases_lt}
+use Rattle.plane_view.specs.declared.Rect.{Rect}
+use Rattle.plane_view.specs.declared.tiles.TileMut.{TileMut}
+use Rattle.plane_view.specs.Rectangles.{HasPixel}
+use Rattle.plane_view.specs.Lent.{sample_at, part_of}
+use Rattle.plane_view.specs.Tiles.{loan, tile, tile_rect, row_in, KeepsOtherRows, SameLoan}
+use Rattle.plane_view.proofs.Parts.{part_whole}
+use Rattle.plane_view.proofs.Writes.{pixel_in, row_in_at}
+
+-- nothing is written
+pub same_loan : (t : TileMut) → SameLoan t t
+same_loan t = record { slice = refl; home = refl; planes = refl; rect = refl; outside = λ r c p pixel out plane. refl }
+
+-- one write after another
+pub then_loan : (s t u : TileMut) → SameLoan s t → SameLoan t u → SameLoan s u
+then_loan s t u first second =
+    record {
+      slice = second.slice ∙ first.slice;
+      home = second.home ∙ first.home;
+      planes = second.planes ∙ first.planes;
+      rect = second.rect ∙ first.rect;
+      outside = λ r c p pixel out plane.
+          second.outside r c p (subst (λ (x : Rect). HasPixel x r c) (sym first.home) pixel)
+          (λ inside. out (subst (λ (x : Rect). HasPixel x r c) first.rect inside))
+          (subst (λ (n : ℕ). p < n) (sym first.planes) plane)
+          ∙ first.outside r c p pixel out plane;
+    }
+
+-- a tile over all that was lent shows all samples of the slice
+pub tile_of_whole : (t : TileMut) → t.home ≡ t.rect → tile t ≡ loan t
+tile_of_whole t whole = subst (λ (x : Rect). part_of (loan t) x ≡ loan t) whole (part_whole (loan t) t.long)
+
+-- one more row: r has the samples f r c p, and so have the rows above it
+pub rows_more : (old new : TileMut) (r : ℕ) (f : ℕ → ℕ → ℕ → ℕ)
+    → SameLoan old new → KeepsOtherRows (loan old) (loan new) (tile_rect old) r
+    → ((c p : ℕ) → HasPixel (tile_rect old) r c → p < (loan old).planes → get_or (row_in (loan new) (tile_rect new) r) ((c - (tile_rect old).left) * (loan old).planes + p) 0 ≡ f r c p)
+    → ((r' c p : ℕ) → HasPixel (tile_rect old) r' c → r' < r → p < (loan old).planes → sample_at (loan old) r' c p ≡ f r' c p)
+    → (r' c p : ℕ) → HasPixel (tile_rect old) r' c → r' < r + 1 → p < (loan old).planes → sample_at (loan new) r' c p ≡ f r' c p
+rows_more old new r f same others row earlier r' c p pixel below plane =
+    ⊎_elim
+    (λ (above : r' < r).
+    others r' c p (pixel_in (loan old).rect (tile_rect old) r' c old.inside pixel) plane (λ is inside. omega arith)
+    ∙ earlier r' c p pixel above plane)
+    (λ (from : r ≤ r').
+    let is : r' ≡ r = omega arith in
+    let here : HasPixel (tile_rect old) r c = subst (λ (i : ℕ). HasPixel (tile_rect old) i c) is pixel in
+    let now_here : HasPixel (tile_rect new) r c = subst (λ (x : Rect). HasPixel x r c) (sym same.rect) here in
+    let now_plane : p < (loan new).planes = subst (λ (n : ℕ). p < n) (sym same.planes) plane in
+    ap (λ i. sample_at (loan new) i c p) is
+    ∙ sym (row_in_at (loan new) (tile_rect new) r c p new.inside now_here now_plane)
+    ∙ ap (λ (x : Rect). get_or (row_in (loan new) (tile_rect new) r) ((c - x.left) * (loan new).planes + p) 0) same.rect
+    ∙ ap (λ n. get_or (row_in (loan new) (tile_rect new) r) ((c - (tile_rect old).left) * n + p) 0) same.planes
+    ∙ row c p here plane
+    ∙ ap (λ i. f i c p) (sym is))
+    (cases_lt r' r)
