@@ -1,0 +1,35 @@
+-- The frame definition at work on a flat frame of 4 by 4 samples, 154 bytes.
+use Rattle.std.proofs.Common.{◌≡◌, ℕ, List, [], ◌∷◌, take, Result, Ok, Err, refl}
+use Rattle.tiff_dirs.specs.Entries.{entries, entry_of, field_of, field_or_fault, slot_at, value_fits, value_place, value_size}
+use Rattle.tiff_dirs.specs.Header.{directory_fits, entry_count, first_directory, has_header, is_big, is_little, order_of}
+use Rattle.tiff_dirs.specs.Kinds.{size_of}
+use Rattle.tiff_dirs.specs.Numbers.{number_at}
+use Rattle.tiff_dirs.specs.Values.{number_in}
+use Rattle.tiff_dirs.specs.declared.Order.TheVariants.{Little}
+use Rattle.dng_tags.specs.Frame.{frame_of, frame_steps, has_plain_numbers, has_plain_sizes, has_plain_tags, is_plain, lacks_other_tags, number, plain_frame}
+use Rattle.dng_tags.specs.declared.frame.FrameFault.TheVariants.{Outside}
+
+-- the header and the count; nine entries; the next directory's offset; the strip
+abbrev flat : List ℕ
+flat =
+    0x49 ∷ 0x49 ∷ 0x2A ∷ 0 ∷ 8 ∷ 0 ∷ 0 ∷ 0 ∷ 9 ∷ 0
+    ∷ 0 ∷ 1 ∷ 3 ∷ 0 ∷ 1 ∷ 0 ∷ 0 ∷ 0 ∷ 4 ∷ 0 ∷ 0 ∷ 0
+    ∷ 1 ∷ 1 ∷ 3 ∷ 0 ∷ 1 ∷ 0 ∷ 0 ∷ 0 ∷ 4 ∷ 0 ∷ 0 ∷ 0
+    ∷ 2 ∷ 1 ∷ 3 ∷ 0 ∷ 1 ∷ 0 ∷ 0 ∷ 0 ∷ 0x10 ∷ 0 ∷ 0 ∷ 0
+    ∷ 6 ∷ 1 ∷ 3 ∷ 0 ∷ 1 ∷ 0 ∷ 0 ∷ 0 ∷ 0x23 ∷ 0x80 ∷ 0 ∷ 0
+    ∷ 0x11 ∷ 1 ∷ 4 ∷ 0 ∷ 1 ∷ 0 ∷ 0 ∷ 0 ∷ 0x7A ∷ 0 ∷ 0 ∷ 0
+    ∷ 0x17 ∷ 1 ∷ 4 ∷ 0 ∷ 1 ∷ 0 ∷ 0 ∷ 0 ∷ 0x20 ∷ 0 ∷ 0 ∷ 0
+    ∷ 0x8D ∷ 0x82 ∷ 3 ∷ 0 ∷ 2 ∷ 0 ∷ 0 ∷ 0 ∷ 2 ∷ 0 ∷ 2 ∷ 0
+    ∷ 0x8E ∷ 0x82 ∷ 1 ∷ 0 ∷ 4 ∷ 0 ∷ 0 ∷ 0 ∷ 0 ∷ 1 ∷ 1 ∷ 2
+    ∷ 0x12 ∷ 0xC6 ∷ 1 ∷ 0 ∷ 4 ∷ 0 ∷ 0 ∷ 0 ∷ 1 ∷ 4 ∷ 0 ∷ 0
+    ∷ 0 ∷ 0 ∷ 0 ∷ 0
+    ∷ 0x34 ∷ 0x12 ∷ 0x34 ∷ 0x12 ∷ 0x34 ∷ 0x12 ∷ 0x34 ∷ 0x12 ∷ 0x34 ∷ 0x12 ∷ 0x34 ∷ 0x12 ∷ 0x34 ∷ 0x12 ∷ 0x34 ∷ 0x12
+    ∷ 0x34 ∷ 0x12 ∷ 0x34 ∷ 0x12 ∷ 0x34 ∷ 0x12 ∷ 0x34 ∷ 0x12 ∷ 0x34 ∷ 0x12 ∷ 0x34 ∷ 0x12 ∷ 0x34 ∷ 0x12 ∷ 0x34 ∷ 0x12 ∷ []
+
+flat-frame : frame_of flat ≡ Ok (record { rows = 4; cols = 4; order = Little; strip = record { at = 122; length = 32 }; cfa = 0 ∷ 1 ∷ 1 ∷ 2 ∷ [] })
+unfolding frame_of frame_steps is_plain has_plain_tags lacks_other_tags has_plain_numbers has_plain_sizes plain_frame number order_of is_big is_little has_header first_directory directory_fits entry_count number_at entry_of entries field_or_fault field_of value_fits value_size value_place slot_at size_of number_in
+flat-frame = refl
+
+cut-outside : frame_of (take 153 flat) ≡ Err (Outside 0)
+unfolding frame_of frame_steps is_plain has_plain_tags lacks_other_tags has_plain_numbers has_plain_sizes plain_frame number order_of is_big is_little has_header first_directory directory_fits entry_count number_at entry_of entries field_or_fault field_of value_fits value_size value_place slot_at size_of number_in
+cut-outside = refl
