@@ -12,7 +12,6 @@ use Rattle.tiff_dirs.specs.declared.Order.{Order}
 use Rattle.tiff_dirs.specs.declared.Order.TheVariants.{Little, Big}
 use Rattle.dng_tags.specs.Steps.{Step, first_refusal}
 use Rattle.dng_tags.specs.declared.frame.Frame.{Frame}
-use Rattle.dng_tags.specs.declared.frame.Segment.{Segment}
 use Rattle.dng_tags.specs.declared.frame.FrameFault.{FrameFault}
 use Rattle.dng_tags.specs.declared.frame.FrameFault.TheVariants.{TooLong, NotTiff, BadDirectory, NotYet, Outside}
 use Rattle.dng_tags.specs.declared.plain.PlainTag.{PlainTag}
