@@ -1,13 +1,9 @@
 -- Which refusal is the first, by the tests in their order.
-use Rattle.std.proofs.Common.{◌≡◌, ℕ, ◌+◌, ◌*◌, ◌^◌, ◌<◌, ◌≤◌, Bool, true, false, not, ◌&&◌, cond, nat_lt, nat_le, List, [], ◌∷◌, length, Result, Ok, Err, refl, sym, ◌∙◌, ap, arith, rules}
+use Rattle.std.proofs.Common.{◌≡◌, ℕ, ◌+◌, ◌*◌, ◌^◌, ◌<◌, ◌≤◌, Bool, true, false, not, ◌&&◌, cond, nat_lt, nat_le, List, length, Ok, Err, refl, ◌∙◌, ap}
 use Rattle.std.proofs.lemmas.Bool.{lt-ltb, le-ltb, leb-true}
-use Rattle.tiff_dirs.specs.Header.{directory_fits, first_directory, has_header, open_of, order_of}
-use Rattle.tiff_dirs.specs.declared.TiffFault.{TiffFault}
+use Rattle.tiff_dirs.specs.Header.{directory_fits, first_directory, has_header, open_of}
 use Rattle.tiff_dirs.specs.declared.TiffFault.TheVariants as tiff
-use Rattle.dng_tags.specs.Steps.{Step, first_refusal}
 use Rattle.dng_tags.specs.Frame.{IsAccepted, frame_of, frame_steps, has_plain_sizes, is_plain, number, plain_frame}
-use Rattle.dng_tags.specs.declared.frame.Frame.{Frame}
-use Rattle.dng_tags.specs.declared.frame.FrameFault.{FrameFault}
 use Rattle.dng_tags.specs.declared.frame.FrameFault.TheVariants.{TooLong, NotTiff, BadDirectory, NotYet, Outside}
 
 -- no header

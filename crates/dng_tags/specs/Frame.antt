@@ -1,6 +1,6 @@
--- The frame definition: what is accepted, and the first refusal otherwise. Directory 0 and its tags are those of
--- TIFF 6.0, section 8 ("Baseline Field Reference Guide") and of DNG 1.6, chapter 4. Which forms are accepted today, and
--- the order of the refusals, are this project's own.
+-- The frame definition: what is accepted, and the first refusal otherwise. The tags of directory 0 are those of TIFF 6.0,
+-- sections 8 (baseline), 15 (tiles) and 19 (SampleFormat), of Adobe's TIFF Technical Note 1 (SubIFDs), of TIFF/EP (the CFA
+-- pattern) and of DNG 1.6, chapter 4. Which forms are accepted today, and the order of the refusals, are this project's own.
 use Rattle.std.specs.Prelude.{◌≡◌, ℕ, ◌+◌, ◌*◌, ◌^◌, ◌≤◌, nat_eq, nat_le, nat_lt, Bool, true, false, not, ◌&&◌, if◌then◌else◌, List, [], ◌∷◌, length, Option, None, Some, Result, Ok, Err}
 use Rattle.std.specs.List.{list_all}
 use Rattle.tiff_dirs.specs.Entries.{Field, entry_of}
@@ -12,13 +12,12 @@ use Rattle.tiff_dirs.specs.declared.Order.{Order}
 use Rattle.tiff_dirs.specs.declared.Order.TheVariants.{Little, Big}
 use Rattle.dng_tags.specs.Steps.{Step, first_refusal}
 use Rattle.dng_tags.specs.declared.frame.Frame.{Frame}
-use Rattle.dng_tags.specs.declared.frame.Segment.{Segment}
 use Rattle.dng_tags.specs.declared.frame.FrameFault.{FrameFault}
 use Rattle.dng_tags.specs.declared.frame.FrameFault.TheVariants.{TooLong, NotTiff, BadDirectory, NotYet, Outside}
 use Rattle.dng_tags.specs.declared.plain.PlainTag.{PlainTag}
 use Rattle.dng_tags.specs.declared.plain.PlainNumber.{PlainNumber}
 
--- what directory 0 has under a tag: its first entry with that tag, if it can be read
+-- what looking for a tag in directory 0 answers: its first entry with that tag, none, or that this entry can't be read
 abbrev pub found : List ℕ → ℕ → Result (Option Field) EntryFault
 found bytes tag = entry_of bytes (first_directory bytes) tag
 
@@ -28,7 +27,7 @@ is_field kind count (Ok (Some field)) = nat_eq field.kind kind && nat_eq field.c
 is_field kind count (Ok None) = false
 is_field kind count (Err fault) = false
 
--- whether a directory has no such entry
+-- whether there is no entry of the tag, also none that can't be read
 abbrev pub is_absent : Result (Option Field) EntryFault → Bool
 is_absent (Ok None) = true
 is_absent (Ok (Some field)) = false

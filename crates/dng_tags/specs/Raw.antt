@@ -1,4 +1,5 @@
--- The raw plane (TIFF 6.0, section 8, StripOffsets; DNG 1.6, chapter 2, on the storage of CFA data).
+-- The raw plane: the samples of a strip, row by row (TIFF 6.0, section 8, "StripOffsets", and section 2, on 16-bit numbers in
+-- the file's order; DNG 1.6, chapter 3, "BitsPerSample").
 use Rattle.std.specs.Prelude.{ℕ, ◌+◌, ◌*◌, List}
 use Rattle.plane_view.specs.Plane.{Plane, plane_of}
 use Rattle.tiff_dirs.specs.Header.{order_of}

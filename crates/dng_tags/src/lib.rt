@@ -5,5 +5,7 @@
 
 mod frame;
 mod plain;
+#[cfg(test)]
+mod tests;
 
 pub use frame::{Frame, FrameFault, MAX_BYTES, Segment, read_frame};

@@ -8,18 +8,29 @@ use crate::frame::{Frame, Segment};
 use tiff_dirs::{Order, Tiff};
 
 const BYTE: u16 = 1;
+
 const SHORT: u16 = 3;
+
 const LONG: u16 = 4;
+
 const IFD: u16 = 13;
 
 const IMAGE_WIDTH: u16 = 256;
+
 const IMAGE_LENGTH: u16 = 257;
+
 const BITS_PER_SAMPLE: u16 = 258;
+
 const PHOTOMETRIC_INTERPRETATION: u16 = 262;
+
 const STRIP_OFFSETS: u16 = 273;
+
 const STRIP_BYTE_COUNTS: u16 = 279;
+
 const CFA_REPEAT_PATTERN_DIM: u16 = 33421;
+
 const CFA_PATTERN: u16 = 33422;
+
 const DNG_VERSION: u16 = 50706;
 
 /// A tag of the plain form, with the type and the count that it has there.
@@ -40,41 +51,158 @@ pub struct PlainNumber {
 
 /// The tags of the plain form.
 const PLAIN_TAGS: [PlainTag; 9] = [
-    PlainTag { tag: IMAGE_WIDTH, kind: SHORT, count: 1 },
-    PlainTag { tag: IMAGE_LENGTH, kind: SHORT, count: 1 },
-    PlainTag { tag: BITS_PER_SAMPLE, kind: SHORT, count: 1 },
-    PlainTag { tag: PHOTOMETRIC_INTERPRETATION, kind: SHORT, count: 1 },
-    PlainTag { tag: STRIP_OFFSETS, kind: LONG, count: 1 },
-    PlainTag { tag: STRIP_BYTE_COUNTS, kind: LONG, count: 1 },
-    PlainTag { tag: CFA_REPEAT_PATTERN_DIM, kind: SHORT, count: 2 },
-    PlainTag { tag: CFA_PATTERN, kind: BYTE, count: 4 },
-    PlainTag { tag: DNG_VERSION, kind: BYTE, count: 4 },
+    PlainTag {
+        tag: IMAGE_WIDTH,
+        kind: SHORT,
+        count: 1,
+    },
+    PlainTag {
+        tag: IMAGE_LENGTH,
+        kind: SHORT,
+        count: 1,
+    },
+    PlainTag {
+        tag: BITS_PER_SAMPLE,
+        kind: SHORT,
+        count: 1,
+    },
+    PlainTag {
+        tag: PHOTOMETRIC_INTERPRETATION,
+        kind: SHORT,
+        count: 1,
+    },
+    PlainTag {
+        tag: STRIP_OFFSETS,
+        kind: LONG,
+        count: 1,
+    },
+    PlainTag {
+        tag: STRIP_BYTE_COUNTS,
+        kind: LONG,
+        count: 1,
+    },
+    PlainTag {
+        tag: CFA_REPEAT_PATTERN_DIM,
+        kind: SHORT,
+        count: 2,
+    },
+    PlainTag {
+        tag: CFA_PATTERN,
+        kind: BYTE,
+        count: 4,
+    },
+    PlainTag {
+        tag: DNG_VERSION,
+        kind: BYTE,
+        count: 4,
+    },
 ];
 
 /// The numbers of the plain form.
 const PLAIN_NUMBERS: [PlainNumber; 12] = [
-    PlainNumber { tag: BITS_PER_SAMPLE, index: 0, value: 16 },
-    PlainNumber { tag: PHOTOMETRIC_INTERPRETATION, index: 0, value: 32803 },
-    PlainNumber { tag: CFA_REPEAT_PATTERN_DIM, index: 0, value: 2 },
-    PlainNumber { tag: CFA_REPEAT_PATTERN_DIM, index: 1, value: 2 },
-    PlainNumber { tag: CFA_PATTERN, index: 0, value: 0 },
-    PlainNumber { tag: CFA_PATTERN, index: 1, value: 1 },
-    PlainNumber { tag: CFA_PATTERN, index: 2, value: 1 },
-    PlainNumber { tag: CFA_PATTERN, index: 3, value: 2 },
-    PlainNumber { tag: DNG_VERSION, index: 0, value: 1 },
-    PlainNumber { tag: DNG_VERSION, index: 1, value: 4 },
-    PlainNumber { tag: DNG_VERSION, index: 2, value: 0 },
-    PlainNumber { tag: DNG_VERSION, index: 3, value: 0 },
+    PlainNumber {
+        tag: BITS_PER_SAMPLE,
+        index: 0,
+        value: 16,
+    },
+    PlainNumber {
+        tag: PHOTOMETRIC_INTERPRETATION,
+        index: 0,
+        value: 32803,
+    },
+    PlainNumber {
+        tag: CFA_REPEAT_PATTERN_DIM,
+        index: 0,
+        value: 2,
+    },
+    PlainNumber {
+        tag: CFA_REPEAT_PATTERN_DIM,
+        index: 1,
+        value: 2,
+    },
+    PlainNumber {
+        tag: CFA_PATTERN,
+        index: 0,
+        value: 0,
+    },
+    PlainNumber {
+        tag: CFA_PATTERN,
+        index: 1,
+        value: 1,
+    },
+    PlainNumber {
+        tag: CFA_PATTERN,
+        index: 2,
+        value: 1,
+    },
+    PlainNumber {
+        tag: CFA_PATTERN,
+        index: 3,
+        value: 2,
+    },
+    PlainNumber {
+        tag: DNG_VERSION,
+        index: 0,
+        value: 1,
+    },
+    PlainNumber {
+        tag: DNG_VERSION,
+        index: 1,
+        value: 4,
+    },
+    PlainNumber {
+        tag: DNG_VERSION,
+        index: 2,
+        value: 0,
+    },
+    PlainNumber {
+        tag: DNG_VERSION,
+        index: 3,
+        value: 0,
+    },
 ];
 
 /// The other tags with which a frame's directory may say how it is to be developed.
 const OTHER_TAGS: [u16; 33] = [
-    254, 259, 277, 278, 322, 323, 324, 325, 330, 339, 50707, 50710, 50711, 50712, 50713, 50714, 50715, 50716, 50717,
-    50719, 50720, 50721, 50722, 50723, 50724, 50727, 50728, 50829, 50964, 50965, 51008, 51009, 51022,
+    254, // NewSubFileType
+    259, // Compression
+    277, // SamplesPerPixel
+    278, // RowsPerStrip
+    322, // TileWidth
+    323, // TileLength
+    324, // TileOffsets
+    325, // TileByteCounts
+    330, // SubIFDs
+    339, // SampleFormat
+    50707, // DNGBackwardVersion
+    50710, // CFAPlaneColor
+    50711, // CFALayout
+    50712, // LinearizationTable
+    50713, // BlackLevelRepeatDim
+    50714, // BlackLevel
+    50715, // BlackLevelDeltaH
+    50716, // BlackLevelDeltaV
+    50717, // WhiteLevel
+    50719, // DefaultCropOrigin
+    50720, // DefaultCropSize
+    50721, // ColorMatrix1
+    50722, // ColorMatrix2
+    50723, // CameraCalibration1
+    50724, // CameraCalibration2
+    50727, // AnalogBalance
+    50728, // AsShotNeutral
+    50829, // ActiveArea
+    50964, // ForwardMatrix1
+    50965, // ForwardMatrix2
+    51008, // OpcodeList1
+    51009, // OpcodeList2
+    51022, // OpcodeList3
 ];
 
 const MIN_SIDE: u32 = 4;
+
 const MAX_SIDE: u32 = 8192;
+
 const MAX_PIXELS: u64 = 1 << 25;
 
 /// Whether directory 0 has an entry of a tag, of this type and this count.
@@ -146,9 +274,7 @@ fn lacks_other_tags(tiff: &Tiff<'_>) -> bool
 fn has_plain_numbers(tiff: &Tiff<'_>) -> bool
     ensures { result ≡ spec.has_plain_numbers tiff.now }
 {
-    PLAIN_NUMBERS
-        .iter()
-        .all(|plain| number(tiff, plain.tag, plain.index) == plain.value)
+    PLAIN_NUMBERS.iter().all(|plain| number(tiff, plain.tag, plain.index) == plain.value)
 }
 
 /// Whether a frame is of the plain form.

@@ -1,7 +1,6 @@
-use Rattle.std.proofs.Common.{rules, ◌≡◌, ℕ, ◌+◌, ◌<◌, ◌≤◌, true, false, List, length, Ok, Err, sym, ◌∙◌, ap, subst, arith}
+use Rattle.std.proofs.Common.{◌≡◌, ℕ, ◌+◌, true, false, List, length, Ok, Err, sym, ◌∙◌, ap, subst, arith}
 use Rattle.tiff_dirs.specs.Header.{open_of}
-use Rattle.tiff_dirs.specs.declared.TiffFault.TheVariants as tiff
-use Rattle.dng_tags.specs.Frame.{IsAccepted, frame_of, is_plain, number, plain_frame}
+use Rattle.dng_tags.specs.Frame.{IsAccepted, is_plain, number, plain_frame}
 use Rattle.dng_tags.specs.declared.frame.Frame.{Frame}
 use Rattle.dng_tags.proofs.Refusals.{refused_too_long, refused_not_tiff, refused_directory, refused_not_yet, refused_outside, accepted, opened, plain_is_accepted, plain_end}
 use Rattle.dng_tags.proofs.frame.read_frame.Goals as goal
