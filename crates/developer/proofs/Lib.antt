@@ -1,0 +1,5 @@
+mod Endings
+mod Images
+mod Lines
+mod Samples
+mod Writing

@@ -1,0 +1,17 @@
+-- The whole development: each stage once, over the whole plane.
+use Rattle.std.specs.Prelude.{◌≡◌, ℕ, ◌≤◌, List}
+use Rattle.plane_view.specs.Plane.{Plane, IsWhole}
+use Rattle.malvar.specs.Demosaic.{malvar, demosaiced}
+use Rattle.dng_tags.specs.Raw.{raw}
+use Rattle.dng_tags.specs.declared.Frame.{Frame}
+
+-- the whole development of an accepted frame: its raw plane, demosaiced
+unfoldable pub develop : List ℕ → Frame → Plane
+develop bytes frame = demosaiced malvar frame.cfa (raw bytes frame)
+
+-- what holds of each developed plane
+pub record IsDeveloped (P : Plane) : Type 0 where
+  pub rows : P.rows ≤ 8192
+  pub cols : P.cols ≤ 8192
+  pub planes : P.planes ≡ 3
+  pub whole : IsWhole P

@@ -1,0 +1,12 @@
+//! Develops the regions of a frame that a script asks for.
+//!
+//! [`run`] is the whole program over files, a script and a sink, and carries the theorem: each region of an accepted
+//! frame is written, to the byte, as the crop of the frame's whole development.
+#![tactic(auto)]
+
+mod answer;
+mod develop;
+mod program;
+mod words;
+
+pub use program::{Status, run};
