@@ -1,0 +1,28 @@
+//! `rawdev FRAME`: develops the regions of a CinemaDNG frame that the script on standard input asks for.
+#![tactic(auto)]
+
+use developer::{Status, run};
+use raw_io::{HostFiles, StdSink, StdSource};
+use std::alloc::AllocError;
+use std::process::ExitCode;
+use std::{env, io};
+
+/// The words of the command line; none where one of them isn't text.
+fn words(rt: &HostRuntime) -> Result<Vec<String>, AllocError> {
+    match env::args(rt) {
+        Ok(args) => args.collect(rt.alloc()),
+        Err(error) if error.kind() == io::ErrorKind::OutOfMemory => Err(AllocError),
+        Err(_) => Ok(Vec::new(rt.alloc())),
+    }
+}
+
+fn main(rt: HostRuntime) -> ExitCode {
+    let Ok(words) = words(&rt) else {
+        return ExitCode::from(Status::Memory as u8);
+    };
+    let mut files = HostFiles::new(&rt);
+    let mut script = StdSource::new(rt.stdin());
+    let mut out = StdSink::new(rt.stdout());
+    let status = run(rt.alloc(), &words, &mut files, &mut script, &mut out);
+    ExitCode::from(status as u8)
+}
