@@ -10,3 +10,6 @@ mod program;
 mod words;
 
 pub use program::{Status, run};
+
+#[cfg(test)]
+mod tests;
