@@ -42,7 +42,7 @@ impl<'a> TileMut<'a> {
 
     /// The rectangle.
     pub fn rect(&self) -> Rect
-        ensures { result ≡ (tile_rect self.now) }
+        ensures { result ≡ tile_rect self.now }
     {
         self.rect
     }
@@ -71,7 +71,7 @@ impl<'a> TileMut<'a> {
         requires { LiesIn rect (loan self.old).rect }
         ensures slice { lent_name self.new ≡ lent_name self.old }
         ensures loan { loan self.new ≡ loan self.old }
-        ensures rect { (tile_rect self.new) ≡ rect }
+        ensures rect { tile_rect self.new ≡ rect }
     {
         self.rect = rect;
     }
