@@ -1,4 +1,6 @@
 pub mod BitLemmas
+pub mod DataLemmas
+pub mod DecodeLemmas
 pub mod OrderLemmas
 pub mod TableLemmas
 pub mod WalkLemmas

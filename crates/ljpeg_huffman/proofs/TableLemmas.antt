@@ -1,13 +1,13 @@
 -- What makes a table, and which fault comes first.
-use Rattle.std.proofs.Common.{◌≡◌, ℕ, suc, ◌+◌, ◌*◌, ◌^◌, ◌<◌, ◌≤◌, Bool, false, cond, ltb, eqb, List, [], ◌∷◌, ◌++◌, length, take, drop, replicate, refl, sym, ap, ap₂, ◌∙◌, arith, sum, length-append, length-drop, All, Some, None, find, nat_lt, option_map, unwrap_or, eq-eqb, ne_eqb, lt-ltb, le-ltb, ltb-false, inl, inr}
+use Rattle.std.proofs.Common.{IfNone, le_trans, Option, ◌≡◌, ℕ, suc, ◌+◌, ◌*◌, ◌^◌, ◌<◌, ◌≤◌, Bool, false, cond, ltb, eqb, List, [], ◌∷◌, ◌++◌, length, take, drop, replicate, refl, sym, ap, ap₂, ◌∙◌, arith, sum, length-append, length-drop, All, Some, None, find, nat_lt, option_map, unwrap_or, eq-eqb, ne_eqb, lt-ltb, le-ltb, ltb-false, inl, inr}
 use Rattle.std.proofs.lemmas.List.{take-append-le, drop-append-le}
 use Rattle.std.proofs.lemmas.List.Sums.{sum_by-cons}
-use Rattle.std.proofs.lemmas.List.Elements.{All-nil, All-cons, All-append, All-replicate}
+use Rattle.std.proofs.lemmas.List.Elements.{All-nil, All-cons, All-append, All-replicate, All-weaker}
 use Rattle.std.proofs.lemmas.Bool.{cond-true, cond-false, false≢true, cases_Bool}
 use Rattle.ljpeg_huffman.specs.declared.table.TableFault.TheVariants.{Empty, TooMany, Category, Overfull}
-use Rattle.ljpeg_huffman.specs.Words.{words_of_length, words_from, code_words, space_from, table_fault, IsTable, IsPrefixFree}
+use Rattle.ljpeg_huffman.specs.Words.{high_end, words_of_length, words_from, code_words, space_from, table_fault, IsTable, IsPrefixFree}
 use Rattle.ljpeg_huffman.proofs.WalkLemmas.{words_from-cons, words_from-nil}
-use Rattle.ljpeg_huffman.proofs.OrderLemmas.{Ascends-code_words, prefix_free_from_order}
+use Rattle.ljpeg_huffman.proofs.OrderLemmas.{Ascends-code_words, prefix_free_from_order, LiesWithin, All-within}
 
 pub fault_empty : (counts values : List ℕ) → sum counts ≡ 0 → Some Empty ≡ table_fault counts values
 unfolding table_fault
@@ -69,3 +69,16 @@ prefix_free_table counts values sizes fits = prefix_free_from_order (space_from 
 pub some_of : (values : List ℕ) (total : ℕ) {b : Bool} → length values ≡ total → b ≡ eqb (length values) 0 → b ≡ false → 0 < total
 some_of [] total size test failed = absurd (false≢true (sym failed ∙ test))
 some_of (v ∷ vs) total size test failed = omega arith
+
+pub sizes_table : (counts values : List ℕ) → length counts ≡ 16 → space_from 1 counts ≤ 2 ^ 16 → All (λ entry. length entry.0 ≤ 16) (code_words counts values)
+sizes_table counts values sizes fits =
+    All-weaker (LiesWithin 0 (space_from 1 counts)) (λ entry. length entry.0 ≤ 16) (λ e h. h.2) (code_words counts values) (All-within (space_from 1 counts) (code_words counts values) 0 (Ascends-code_words counts values sizes fits))
+
+-- a window above all code words
+pub below_table : (counts values : List ℕ) (window : ℕ) → length counts ≡ 16 → space_from 1 counts ≤ 2 ^ 16 → space_from 1 counts ≤ window → All (λ entry. high_end entry.0 ≤ window) (code_words counts values)
+below_table counts values window sizes fits over =
+    All-weaker (LiesWithin 0 (space_from 1 counts)) (λ entry. high_end entry.0 ≤ window) (λ e h. le_trans h.1 over) (code_words counts values) (All-within (space_from 1 counts) (code_words counts values) 0 (Ascends-code_words counts values sizes fits))
+
+pub none_weaker : {X P Q : Type 0} (o : Option X) → (P → Q) → IfNone o P → IfNone o Q
+none_weaker None f h = f h
+none_weaker (Some x) f h = h

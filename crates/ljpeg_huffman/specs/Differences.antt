@@ -1,5 +1,5 @@
 -- Data bits, and the differences that they spell (ITU-T T.81, Annex H.1.2 and F.2.2).
-use Rattle.std.specs.Prelude.{◌≡◌, ℕ, suc, ◌-◌, ◌*◌, ◌^◌, ◌<◌, Bool, List, [], ◌∷◌, ◌++◌, length, ◌==◌, nat_lt, if◌then◌else◌, Contains, ℤ, pos, negsuc, ◌-ℤ◌, ◌⊎◌, flat_map, refl}
+use Rattle.std.specs.Prelude.{◌≡◌, ℕ, suc, ◌-◌, ◌*◌, ◌^◌, ◌<◌, ◌≤◌, replicate, Bool, true, false, List, [], ◌∷◌, ◌++◌, length, ◌==◌, nat_lt, if◌then◌else◌, Contains, ℤ, pos, negsuc, ◌-ℤ◌, ◌⊎◌, flat_map, refl}
 use Rattle.ljpeg_huffman.specs.Words.{bits_of, Table, IsPrefix}
 
 -- The bytes of the data: a zero behind an FF is stuffed and taken out. An FF that no zero follows ends them (T.81, F.1.2.3 and B.1.1.5).
@@ -12,6 +12,10 @@ unstuffed (byte ∷ next ∷ bytes) =
 -- The data bits of a stretch of bytes: eight of each byte, the most significant first.
 unfoldable pub data_bits : List ℕ → List Bool
 data_bits bytes = flat_map (bits_of 8) (unstuffed bytes)
+
+-- The bits that are left where some are held, in the lowest bits of a word, before those of the bytes.
+unfoldable pub bits_left : ℕ → ℕ → List ℕ → List Bool
+bits_left held word bytes = bits_of held word ++ data_bits bytes
 
 -- How many further bits follow a category's code word: none follow category 16 (T.81, H.1.2.2, table H.2).
 abbrev pub further_bits : ℕ → ℕ
@@ -60,6 +64,12 @@ EndsWithin table bits = ((¬ BeginsWithCode table bits) × IsCutCode table bits)
 -- No code word is a prefix of the bits, and they are no proper prefix of one.
 abbrev pub HasNoCode : Table → List Bool → Type 0
 HasNoCode table bits = (¬ BeginsWithCode table bits) × (¬ IsCutCode table bits)
+
+-- A window has the next 16 of the bits that are held, and zeros where fewer are held.
+pub record IsWindow (held word window : ℕ) : Type 0 where
+  pub small : window < 2 ^ 16
+  pub full : 16 ≤ held → bits_of held word ≡ bits_of 16 window ++ bits_of (held - 16) word
+  pub short : held < 16 → bits_of 16 window ≡ bits_of held word ++ replicate (16 - held) false
 
 -- Category 3 (T.81, table F.1): 000 is -7, 011 is -4, 100 is 4. Category 0 is 0.
 pub difference-example : (difference 3 0 ≡ negsuc 6) × (difference 3 3 ≡ negsuc 3) × (difference 3 4 ≡ pos 4) × (difference 0 0 ≡ pos 0) × (difference 1 0 ≡ negsuc 0) × (difference 15 32767 ≡ pos 32767)

@@ -1,6 +1,8 @@
 //! Code tables and differences of lossless JPEG (ITU-T T.81, Annexes C and H).
 #![tactic(auto)]
 
+mod bits;
 mod table;
 
+pub use bits::{BitFault, Bits};
 pub use table::{CodeTable, TableFault};

@@ -1,8 +1,8 @@
 //! Tables of code words (ITU-T T.81, Annex C).
 
-ghost use Rattle.std.specs.Prelude.{◌≡◌, ℕ, ◌+◌, ◌-◌, ◌*◌, ◌/◌, ◌^◌, ◌<◌, ◌≤◌, length, sum, IfOk, IfSome, IfNone, Contains, find, nat_lt, replicate, ◌++◌};
+ghost use Rattle.std.specs.Prelude.{◌≡◌, ℕ, ◌+◌, ◌-◌, ◌*◌, ◌/◌, ◌^◌, ◌<◌, ◌≤◌, length, sum, IfOk, IfSome, IfNone, Contains, All, find, nat_lt, replicate, ◌++◌};
 ghost use Rattle.std.specs.Result.{result_err};
-ghost use Rattle.ljpeg_huffman.specs.Words.{bits_of, code_words, space_from, table_fault, IsPrefixFree, IsTable};
+ghost use Rattle.ljpeg_huffman.specs.Words.{bits_of, high_end, code_words, space_from, table_fault, IsPrefixFree, IsTable};
 
 use std::marker::Model;
 
@@ -67,6 +67,23 @@ impl CodeTable {
     }
 }
 
+impl CodeTable {
+    /// The code word that begins the 16 bits of `window`.
+    pub fn find(&self, window: u32) -> Option<Code>
+        requires { window < 2 ^ 16 }
+        ensures size { IfSome result (λ code. code.size ≤ 16) }
+        ensures category { IfSome result (λ code. code.category ≤ 16) }
+        ensures found { IfSome result
+            (λ code. Contains self.now
+                (bits_of code.size (window / 2 ^ (16 - code.size)), code.category)) }
+        ensures none { IfNone result (All (λ entry. high_end entry.0 ≤ window) self.now) }
+        ensures prefix_free { IsPrefixFree self.now }
+        ensures sizes { All (λ entry. length entry.0 ≤ 16) self.now }
+    {
+        walk(&self.counts, &self.values, window)
+    }
+}
+
 /// The first value that is no category.
 fn first_unknown(values: &[u8]) -> Option<u8>
     ensures { result ≡ find (nat_lt 16) values.now }
@@ -103,7 +120,7 @@ pub struct Code {
 }
 
 /// The code word that begins the 16 bits of `window`.
-pub fn walk(counts: &[u8; 16], values: &[u8], window: u32) -> Option<Code>
+fn walk(counts: &[u8; 16], values: &[u8], window: u32) -> Option<Code>
     requires table { IsTable counts.now values.now }
     requires window { window < 2 ^ 16 }
     ensures size { IfSome result (λ code. code.size ≤ 16) }
