@@ -2,5 +2,6 @@ pub mod BitLemmas
 pub mod DataLemmas
 pub mod DecodeLemmas
 pub mod OrderLemmas
+pub mod ShortLemmas
 pub mod TableLemmas
 pub mod WalkLemmas

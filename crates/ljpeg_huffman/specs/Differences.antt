@@ -1,5 +1,5 @@
 -- Data bits, and the differences that they spell (ITU-T T.81, Annex H.1.2 and F.2.2).
-use Rattle.std.specs.Prelude.{◌≡◌, ℕ, suc, ◌-◌, ◌*◌, ◌^◌, ◌<◌, ◌≤◌, replicate, Bool, true, false, List, [], ◌∷◌, ◌++◌, length, ◌==◌, nat_lt, if◌then◌else◌, Contains, ℤ, pos, negsuc, ◌-ℤ◌, ◌⊎◌, flat_map, refl}
+use Rattle.std.specs.Prelude.{◌≡◌, ℕ, suc, ◌-◌, ◌*◌, ◌^◌, ◌<◌, ◌≤◌, replicate, Bool, false, List, [], ◌∷◌, ◌++◌, length, ◌==◌, nat_lt, if◌then◌else◌, Contains, ℤ, pos, negsuc, ◌-ℤ◌, ◌⊎◌, flat_map, refl}
 use Rattle.ljpeg_huffman.specs.Words.{bits_of, Table, IsPrefix}
 
 -- The bytes of the data: a zero behind an FF is stuffed and taken out. An FF that no zero follows ends them (T.81, F.1.2.3 and B.1.1.5).

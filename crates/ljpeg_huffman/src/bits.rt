@@ -1,6 +1,7 @@
 //! Differences from stuffed data bits (ITU-T T.81, Annex H.1.2).
 
 ghost use Rattle.std.specs.Prelude.{◌≡◌, ℕ, ◌+◌, ◌-◌, ◌*◌, ◌/◌, ◌^◌, ◌<◌, ◌≤◌, ◌⊎◌, ◌↔◌, List, [], ◌∷◌, ◌++◌, Bool, length, IfOk, OnErr, MatchOption};
+ghost use Rattle.std.specs.Bool.{OnTrue};
 ghost use Rattle.ljpeg_huffman.specs.Words.{bits_of};
 ghost use Rattle.ljpeg_huffman.specs.Differences.{unstuffed, data_bits, bits_left, further_bits, difference, IsWindow, SpellsOne, EndsWithin, HasNoCode};
 
@@ -90,9 +91,30 @@ impl<'a> Register<'a> {
         ensures enough { (MOST_BITS ≤ self.new.held) ⊎ (data_bits self.new.bytes.now ≡ []) }
         ensures room { self.new.held < 64 }
     {
-        if self.held < MOST_BITS {
+        if self.held < MOST_BITS && !self.take_four() {
             self.take_bytes();
         }
+    }
+
+    /// Takes four bytes at once, where none of them is an FF.
+    fn take_four(&mut self) -> bool
+        requires { self.old.held < MOST_BITS }
+        ensures same { bits_left self.new.held self.new.word self.new.bytes.now
+            ≡ bits_left self.old.held self.old.word self.old.bytes.now }
+        ensures enough { OnTrue result (MOST_BITS ≤ self.new.held) }
+        ensures room { self.new.held < 64 }
+    {
+        let [a, b, c, d, rest @ ..] = self.bytes else {
+            return false;
+        };
+        if *a == 0xff || *b == 0xff || *c == 0xff || *d == 0xff {
+            return false;
+        }
+        let four = u32::from_be_bytes([*a, *b, *c, *d]);
+        self.word = self.word % (1 << 32) * (1 << 32) + four as u64;
+        self.held += 32;
+        self.bytes = rest;
+        true
     }
 
     /// Takes bytes one by one, to the end of the data or as many as there is room for.
@@ -134,7 +156,7 @@ impl<'a> Register<'a> {
         ensures number { result < 2 ^ further }
         ensures bits { bits_of self.old.held self.old.word
             ≡ bits_of (size - further) (self.old.word / 2 ^ (self.old.held - (size - further)))
-                ++ bits_of further result ++ bits_of self.new.held self.new.word }
+            ++ bits_of further result ++ bits_of self.new.held self.new.word }
         ensures after { self.new ≡ record self.old { held = self.old.held - size } }
     {
         self.held -= size;

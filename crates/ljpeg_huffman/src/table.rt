@@ -1,7 +1,8 @@
 //! Tables of code words (ITU-T T.81, Annex C).
 
-ghost use Rattle.std.specs.Prelude.{◌≡◌, ℕ, ◌+◌, ◌-◌, ◌*◌, ◌/◌, ◌^◌, ◌<◌, ◌≤◌, length, sum, IfOk, IfSome, IfNone, Contains, All, find, nat_lt, replicate, ◌++◌};
+ghost use Rattle.std.specs.Prelude.{◌≡◌, ℕ, ◌+◌, ◌-◌, ◌*◌, ◌/◌, ◌^◌, ◌<◌, ◌≤◌, length, sum, IfOk, IfSome, IfNone, Contains, All, find, nat_lt, replicate, ◌++◌, slice_index_or, None};
 ghost use Rattle.std.specs.Result.{result_err};
+ghost use Rattle.ljpeg_huffman.specs.Short.{IsShort};
 ghost use Rattle.ljpeg_huffman.specs.Words.{bits_of, high_end, code_words, space_from, table_fault, IsPrefixFree, IsTable};
 
 use std::marker::Model;
@@ -26,17 +27,24 @@ pub struct CodeTable {
     counts: [u8; 16],
     /// The categories in the order of the code words, and zeros.
     values: [u8; 256],
+    /// By the next `SHORT` bits, the code word that begins them, where it has no more bits.
+    short: [Option<Code>; 512],
 }
 
+/// The most bits of a code word that is looked up at once.
+const SHORT: u32 = 9;
+
 impl Model for CodeTable {
-    ghost use Rattle.std.specs.Prelude.{List, Bool, ℕ};
+    ghost use Rattle.std.specs.Prelude.{List, Bool, ℕ, ◌<◌, slice_index_or, None};
     ghost use Rattle.ljpeg_huffman.specs.Words.{code_words, IsTable};
+    ghost use Rattle.ljpeg_huffman.specs.Short.{IsShort};
 
     ghost Value = { List (List Bool × ℕ) };
 
     ghost view = { λ table. code_words table.counts table.values };
 
-    ghost invariant = { λ table. IsTable table.counts table.values };
+    ghost invariant = { λ table. IsTable table.counts table.values
+        × ((place : ℕ) → place < 512 → IsShort table.counts table.values place (slice_index_or table.short place None)) };
 }
 
 impl CodeTable {
@@ -60,9 +68,11 @@ impl CodeTable {
         if space(counts) > 0x1_0000 {
             return Err(TableFault::Overfull);
         }
+        let values = padded(values);
         Ok(CodeTable {
             counts: *counts,
-            values: padded(values),
+            values,
+            short: short_codes(counts, &values),
         })
     }
 }
@@ -75,12 +85,15 @@ impl CodeTable {
         ensures category { IfSome result (λ code. code.category ≤ 16) }
         ensures found { IfSome result
             (λ code. Contains self.now
-                (bits_of code.size (window / 2 ^ (16 - code.size)), code.category)) }
+            (bits_of code.size (window / 2 ^ (16 - code.size)), code.category)) }
         ensures none { IfNone result (All (λ entry. high_end entry.0 ≤ window) self.now) }
         ensures prefix_free { IsPrefixFree self.now }
         ensures sizes { All (λ entry. length entry.0 ≤ 16) self.now }
     {
-        walk(&self.counts, &self.values, window)
+        match self.short[(window >> (16 - SHORT)) as usize] {
+            Some(code) => Some(code),
+            None => walk(&self.counts, &self.values, window),
+        }
     }
 }
 
@@ -117,6 +130,28 @@ fn space(counts: &[u8; 16]) -> u32
 pub struct Code {
     pub size: u32,
     pub category: u8,
+}
+
+/// By each number of `SHORT` bits, the code word that begins them, where it has no more bits.
+fn short_codes(counts: &[u8; 16], values: &[u8]) -> [Option<Code>; 512]
+    requires { IsTable counts.now values.now }
+    ensures { (place : ℕ) → place < 512 → IsShort counts.now values.now place (slice_index_or result place None) }
+{
+    let mut short = [None; 512];
+    for place in 0..512u32 {
+        short[place as usize] = short_code(counts, values, place);
+    }
+    short
+}
+
+/// The code word that begins the `SHORT` bits of `place`, where it has no more bits.
+fn short_code(counts: &[u8; 16], values: &[u8], place: u32) -> Option<Code>
+    requires table { IsTable counts.now values.now }
+    requires place { place < 512 }
+    ensures { IsShort counts.now values.now place result }
+{
+    let code = walk(counts, values, place << (16 - SHORT))?;
+    if code.size <= SHORT { Some(code) } else { None }
 }
 
 /// The code word that begins the 16 bits of `window`.

@@ -1,4 +1,4 @@
-use Rattle.std.proofs.Common.{arith, eq-eqb, ne_eqb, ap, ◌∙◌, ◌∷◌}
+use Rattle.std.proofs.Common.{eq-eqb, ne_eqb, ap, ◌∙◌, ◌∷◌}
 use Rattle.std.proofs.lemmas.List.{nil_from_length}
 use Rattle.ljpeg_huffman.specs.Differences.{unstuffed}
 use Rattle.ljpeg_huffman.proofs.DataLemmas.{unstuffed-nil, unstuffed-plain, unstuffed-cut, unstuffed-stuffed, unstuffed-marker}

@@ -1,4 +1,4 @@
-use Rattle.std.proofs.Common.{◌≡◌, List, ◌++◌, Bool, arith, rules, refl, sym, ap, ◌∙◌, subst, to_z, of_z, to_z-of_z, w32, ◌+◌, ◌-◌, ◌/◌, ◌^◌, ◌<◌}
+use Rattle.std.proofs.Common.{◌≡◌, List, ◌++◌, Bool, arith, refl, sym, ap, ◌∙◌, subst, to_z, of_z, to_z-of_z, w32, ◌+◌, ◌-◌, ◌/◌, ◌^◌, ◌<◌}
 use Rattle.ljpeg_huffman.specs.Words.{bits_of}
 use Rattle.ljpeg_huffman.specs.Differences.{bits_left, further_bits, difference, SpellsOne, EndsWithin, HasNoCode}
 use Rattle.ljpeg_huffman.proofs.BitLemmas.{length-bits_of}
@@ -11,7 +11,7 @@ none_left : (c : In_default) → HasNoCode c.args.table.now c.args.self.now
 none_left c =
     let register = c.fill.new.self in
     subst (HasNoCode c.args.table.now) (c.fill.ensures.same ∙ c.self.view_is)
-        (no_code c.args.table.now c.find.ensures.prefix_free c.find.ensures.sizes register.held register.word register.bytes.now c.fill.ensures.enough c.window.result c.window.ensures c.in_default.ensures.none)
+    (no_code c.args.table.now c.find.ensures.prefix_free c.find.ensures.sizes register.held register.word register.bytes.now c.fill.ensures.enough c.window.result c.window.ensures c.in_default.ensures.none)
 
 -- the bits that are left end within a difference
 end_left : (c : Then-self-size) → EndsWithin c.args.table.now c.args.self.now
@@ -20,7 +20,7 @@ end_left c =
     let code = c.in-Some.code in
     let e = c.further-further.ensures in
     subst (EndsWithin c.args.table.now) (c.fill.ensures.same ∙ c.self.view_is)
-        (ended c.args.table.now c.find.ensures.prefix_free c.find.ensures.sizes register.held register.word register.bytes.now c.fill.ensures.enough c.window.result c.window.ensures code.size code.category c.in-Some.ensures.size c.in-Some.ensures.category c.in-Some.ensures.found (omega arith))
+    (ended c.args.table.now c.find.ensures.prefix_free c.find.ensures.sizes register.held register.word register.bytes.now c.fill.ensures.enough c.window.result c.window.ensures code.size code.category c.in-Some.ensures.size c.in-Some.ensures.category c.in-Some.ensures.found (omega arith))
 
 -- what was taken spells the difference
 taken_left : (c : After-extended) → (taken : List Bool) × (c.args.self.now ≡ taken ++ bits_left c.take-extra.new.self.held c.take-extra.new.self.word c.take-extra.new.self.bytes.now) × SpellsOne c.args.table.now taken (to_z w32 (of_z w32 c.extended.result))
@@ -34,8 +34,8 @@ taken_left c =
     let value : to_z w32 (of_z w32 c.extended.result) ≡ difference code.category extra = to_z-of_z {w = w32} (record { sfits = c.extended.type_inv }) ∙ c.extended.ensures in
     let fits : extra < 2 ^ further_bits code.category = subst (λ k. extra < 2 ^ k) c.further-further.ensures c.take-extra.ensures.number in
     let found = takes c.args.table.now c.find.ensures.prefix_free c.find.ensures.sizes before.held before.word before.bytes.now c.fill.ensures.enough c.window.result c.window.ensures code.size code.category c.in-Some.ensures.size c.in-Some.ensures.category c.in-Some.ensures.found
-      (bits_of ((code.size + further) - further) (before.word / 2 ^ (before.held - ((code.size + further) - further)))) (bits_of further extra) after.held after.word extra (to_z w32 (of_z w32 c.extended.result))
-      c.take-extra.ensures.bits (length-bits_of ((code.size + further) - further) _ ∙ back) (ap (λ k. bits_of k extra) c.further-further.ensures) fits value in
+    (bits_of ((code.size + further) - further) (before.word / 2 ^ (before.held - ((code.size + further) - further)))) (bits_of further extra) after.held after.word extra (to_z w32 (of_z w32 c.extended.result))
+    c.take-extra.ensures.bits (length-bits_of ((code.size + further) - further) _ ∙ back) (ap (λ k. bits_of k extra) c.further-further.ensures) fits value in
     let bytes = ap (λ r. r.bytes.now) c.take-extra.ensures.after in
     (found.0, sym (c.fill.ensures.same ∙ c.self.view_is) ∙ found.1 ∙ ap (λ b. found.0 ++ bits_left after.held after.word b) (sym bytes), found.2)
 

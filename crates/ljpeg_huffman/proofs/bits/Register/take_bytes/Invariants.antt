@@ -1,4 +1,4 @@
-use Rattle.std.proofs.Common.{◌≡◌, ◌+◌, ◌-◌, ◌<◌}
+use Rattle.std.proofs.Common.{◌≡◌, ◌-◌, ◌<◌}
 use Rattle.ljpeg_huffman.specs.Differences.{bits_left}
 use Rattle.ljpeg_huffman.proofs.bits.Register.take_bytes.Given as goal
 

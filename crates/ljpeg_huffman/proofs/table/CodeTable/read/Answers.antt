@@ -20,13 +20,18 @@ returns-then-space-gt65536-clause-fault c =
 
 pub invariant_of-result : goal.invariant_of-result
 invariant_of-result c =
-    IsTable-padded c.args.counts.now c.args.values.now c.padded.result _ c.padded.ensures c.told-counts (omega arith) (sym c.first_unknown.ensures ∙ c.in_default.is) (omega arith)
+    let table = IsTable-padded c.args.counts.now c.args.values.now c.padded-values.result _ c.padded-values.ensures c.told-counts (omega arith) (sym c.first_unknown.ensures ∙ c.in_default.is) (omega arith) in
+    (table, c.short_codes.ensures)
+
+pub short_codes-requires : goal.short_codes-requires
+short_codes-requires c =
+    IsTable-padded c.args.counts.now c.args.values.now c.padded-values.result _ c.padded-values.ensures c.told-counts (omega arith) (sym c.first_unknown.ensures ∙ c.in_default.is) (omega arith)
 
 pub returns-clause-table : goal.returns-clause-table
-returns-clause-table c = code_words-padded c.args.counts.now c.args.values.now c.padded.result _ c.padded.ensures (omega arith)
+returns-clause-table c = code_words-padded c.args.counts.now c.args.values.now c.padded-values.result _ c.padded-values.ensures (omega arith)
 
 pub returns-clause-prefix_free : goal.returns-clause-prefix_free
-returns-clause-prefix_free c = prefix_free_table c.args.counts.now c.padded.result c.told-counts (omega arith)
+returns-clause-prefix_free c = prefix_free_table c.args.counts.now c.padded-values.result c.told-counts (omega arith)
 
 pub returns-clause-fault : goal.returns-clause-fault
 returns-clause-fault c =
