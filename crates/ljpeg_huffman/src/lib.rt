@@ -3,6 +3,8 @@
 
 mod bits;
 mod table;
+#[cfg(test)]
+mod tests;
 
 pub use bits::{BitFault, Bits};
 pub use table::{CodeTable, TableFault};
