@@ -3,5 +3,6 @@ pub mod DataLemmas
 pub mod DecodeLemmas
 pub mod OrderLemmas
 pub mod ShortLemmas
+pub mod SpellLemmas
 pub mod TableLemmas
 pub mod WalkLemmas

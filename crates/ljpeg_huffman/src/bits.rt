@@ -1,9 +1,9 @@
 //! Differences from stuffed data bits (ITU-T T.81, Annex H.1.2).
 
-ghost use Rattle.std.specs.Prelude.{◌≡◌, ℕ, ◌+◌, ◌-◌, ◌*◌, ◌/◌, ◌^◌, ◌<◌, ◌≤◌, ◌⊎◌, ◌↔◌, List, [], ◌∷◌, ◌++◌, Bool, length, IfOk, OnErr, MatchOption};
+ghost use Rattle.std.specs.Prelude.{◌≡◌, ℕ, ◌+◌, ◌-◌, ◌*◌, ◌/◌, ◌^◌, ◌<◌, ◌≤◌, ◌⊎◌, ◌↔◌, List, [], ◌∷◌, ◌++◌, Bool, length, IfOk, OnErr, MatchOption, ℤ};
 ghost use Rattle.std.specs.Bool.{OnTrue};
-ghost use Rattle.ljpeg_huffman.specs.Words.{bits_of};
-ghost use Rattle.ljpeg_huffman.specs.Differences.{unstuffed, data_bits, bits_left, further_bits, difference, IsWindow, SpellsOne, EndsWithin, HasNoCode};
+ghost use Rattle.ljpeg_huffman.specs.Words.{bits_of, Table, IsPrefixFree};
+ghost use Rattle.ljpeg_huffman.specs.Differences.{unstuffed, data_bits, bits_left, further_bits, difference, IsWindow, SpellsOne, Spells, EndsWithin, HasNoCode};
 
 use crate::table::CodeTable;
 use std::marker::Model;
@@ -73,7 +73,7 @@ impl<'a> Bits<'a> {
             return Err(BitFault::NoCode);
         };
         let further = further(code.category);
-        let size = code.size + further;
+        let size = code.size as u32 + further;
         if self.register.held < size {
             return Err(BitFault::Ended);
         }
@@ -81,6 +81,14 @@ impl<'a> Bits<'a> {
         Ok(extended(code.category, extra))
     }
 }
+
+/// Bits spell one list of so many differences at most, whatever follows them, by tables in which no code word is a
+/// prefix of another.
+pub fn one_spelling()
+    ensures { (values others : List ℤ) (tables : ℕ → Table) → ((place : ℕ) → IsPrefixFree (tables place))
+        → (bits more after behind : List Bool) → Spells tables bits values → Spells tables more others
+        → length values ≡ length others → bits ++ after ≡ more ++ behind → (bits ≡ more) × (values ≡ others) }
+{}
 
 impl<'a> Register<'a> {
     /// Takes bytes until one difference at least is held, or to the end of the data.

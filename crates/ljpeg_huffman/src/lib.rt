@@ -6,5 +6,5 @@ mod table;
 #[cfg(test)]
 mod tests;
 
-pub use bits::{BitFault, Bits};
+pub use bits::{BitFault, Bits, one_spelling};
 pub use table::{CodeTable, TableFault};

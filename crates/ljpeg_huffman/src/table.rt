@@ -32,7 +32,7 @@ pub struct CodeTable {
 }
 
 /// The most bits of a code word that is looked up at once.
-const SHORT: u32 = 9;
+const SHORT: u8 = 9;
 
 impl Model for CodeTable {
     ghost use Rattle.std.specs.Prelude.{List, Bool, ℕ, ◌<◌, slice_index_or, None};
@@ -128,7 +128,7 @@ fn space(counts: &[u8; 16]) -> u32
 /// A code word that begins some bits: its size in bits, and its category.
 #[derive(Clone, Copy)]
 pub struct Code {
-    pub size: u32,
+    pub size: u8,
     pub category: u8,
 }
 
@@ -173,7 +173,7 @@ fn walk(counts: &[u8; 16], values: &[u8], window: u32) -> Option<Code>
         if code < first + count {
             let category = values[start + (code - first) as usize];
             return Some(Code {
-                size: place + 1,
+                size: place as u8 + 1,
                 category,
             });
         }
