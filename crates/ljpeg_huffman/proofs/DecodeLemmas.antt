@@ -158,6 +158,12 @@ module _ (table : Table) (free : IsPrefixFree table) (sizes : All (λ e. length 
           },
         )
 
+-- the same of bits that are equal to those
+pub ended_at : (bits : List Bool) (table : Table) → IsPrefixFree table → All (λ e. length e.0 ≤ 16) table → (held word : ℕ) (bytes : List ℕ) → (31 ≤ held) ⊎ (data_bits bytes ≡ []) → (window : ℕ) → IsWindow held word window → (size category : ℕ) → size ≤ 16 → category ≤ 16
+    → Contains table (bits_of size (window / 2 ^ (16 - size)), category) → held < size + further_bits category → bits_left held word bytes ≡ bits → EndsWithin table bits
+ended_at bits table free sizes held word bytes enough window w size category small known listed few same =
+    subst (EndsWithin table) same (ended table free sizes held word bytes enough window w size category small known listed few)
+
 -- the three outcomes exclude one another
 pub not_ended : (table : Table) → IsPrefixFree table → (bits taken after : List Bool) (value : ℤ) → bits ≡ taken ++ after → SpellsOne table taken value → EndsWithin table bits → ⊥
 not_ended table free bits taken after value e s end =

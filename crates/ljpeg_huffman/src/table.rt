@@ -79,7 +79,7 @@ impl CodeTable {
 
 impl CodeTable {
     /// The code word that begins the 16 bits of `window`.
-    pub fn find(&self, window: u32) -> Option<Code>
+    pub(crate) fn find(&self, window: u32) -> Option<Code>
         requires { window < 2 ^ 16 }
         ensures size { IfSome result (λ code. code.size ≤ 16) }
         ensures category { IfSome result (λ code. code.category ≤ 16) }
@@ -127,7 +127,7 @@ fn space(counts: &[u8; 16]) -> u32
 
 /// A code word that begins some bits: its size in bits, and its category.
 #[derive(Clone, Copy)]
-pub struct Code {
+pub(crate) struct Code {
     pub size: u8,
     pub category: u8,
 }

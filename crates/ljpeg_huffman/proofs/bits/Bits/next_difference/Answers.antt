@@ -1,10 +1,10 @@
 use Rattle.std.proofs.Common.{◌≡◌, List, ◌++◌, Bool, arith, refl, sym, ap, ◌∙◌, subst, to_z, of_z, to_z-of_z, w32, ◌+◌, ◌-◌, ◌/◌, ◌^◌, ◌<◌}
 use Rattle.ljpeg_huffman.specs.Words.{bits_of}
-use Rattle.ljpeg_huffman.specs.Differences.{bits_left, further_bits, difference, SpellsOne, EndsWithin, HasNoCode}
+use Rattle.ljpeg_huffman.specs.Differences.{bits_left, further_bits, difference, SpellsOne, HasNoCode}
 use Rattle.ljpeg_huffman.proofs.BitLemmas.{length-bits_of}
-use Rattle.ljpeg_huffman.proofs.DecodeLemmas.{no_code, ended, takes, not_ended, not_no_code, ended_or_no_code}
+use Rattle.ljpeg_huffman.proofs.DecodeLemmas.{no_code, ended_at, takes, not_ended, not_no_code, ended_or_no_code}
 use Rattle.ljpeg_huffman.proofs.bits.Bits.next_difference.Goals as goal
-use Rattle.ljpeg_huffman.proofs.bits.Bits.next_difference.Goals.{In_default, Then-self-size, After-extended}
+use Rattle.ljpeg_huffman.proofs.bits.Bits.next_difference.Goals.{In_default, After-extended}
 
 -- no code word begins the bits that are left
 none_left : (c : In_default) → HasNoCode c.args.table.now c.args.self.now
@@ -12,15 +12,6 @@ none_left c =
     let register = c.fill.new.self in
     subst (HasNoCode c.args.table.now) (c.fill.ensures.same ∙ c.self.view_is)
     (no_code c.args.table.now c.find.ensures.prefix_free c.find.ensures.sizes register.held register.word register.bytes.now c.fill.ensures.enough c.window.result c.window.ensures c.in_default.ensures.none)
-
--- the bits that are left end within a difference
-end_left : (c : Then-self-size) → EndsWithin c.args.table.now c.args.self.now
-end_left c =
-    let register = c.fill.new.self in
-    let code = c.in-Some.code in
-    let e = c.further-further.ensures in
-    subst (EndsWithin c.args.table.now) (c.fill.ensures.same ∙ c.self.view_is)
-    (ended c.args.table.now c.find.ensures.prefix_free c.find.ensures.sizes register.held register.word register.bytes.now c.fill.ensures.enough c.window.result c.window.ensures code.size code.category c.in-Some.ensures.size c.in-Some.ensures.category c.in-Some.ensures.found (omega arith))
 
 -- what was taken spells the difference
 taken_left : (c : After-extended) → (taken : List Bool) × (c.args.self.now ≡ taken ++ bits_left c.take-extra.new.self.held c.take-extra.new.self.word c.take-extra.new.self.bytes.now) × SpellsOne c.args.table.now taken (to_z w32 (of_z w32 c.extended.result))
@@ -47,11 +38,22 @@ pub returns-in_default-clause-no_code : goal.returns-in_default-clause-no_code
 returns-in_default-clause-no_code c = (λ e. none_left c, λ h. refl)
 
 pub returns-then-self-size-clause-ended : goal.returns-then-self-size-clause-ended
-returns-then-self-size-clause-ended c = (λ e. end_left c, λ h. refl)
+returns-then-self-size-clause-ended c =
+    let register = c.fill.new.self in
+    let code = c.in-Some.code in
+    let says = c.in-Some.ensures in
+    let e = c.further-further.ensures in
+    let end = ended_at c.args.self.now c.args.table.now c.find.ensures.prefix_free c.find.ensures.sizes register.held register.word register.bytes.now c.fill.ensures.enough c.window.result c.window.ensures code.size code.category says.size says.category says.found (omega arith) (c.fill.ensures.same ∙ c.self.view_is) in
+    (λ _. end, λ _. refl)
 
 pub returns-then-self-size-clause-no_code : goal.returns-then-self-size-clause-no_code
 returns-then-self-size-clause-no_code c =
-    (λ e. absurd (cc), λ none. absurd (ended_or_no_code c.args.table.now c.args.self.now (end_left c) none))
+    let register = c.fill.new.self in
+    let code = c.in-Some.code in
+    let says = c.in-Some.ensures in
+    let e = c.further-further.ensures in
+    let end = ended_at c.args.self.now c.args.table.now c.find.ensures.prefix_free c.find.ensures.sizes register.held register.word register.bytes.now c.fill.ensures.enough c.window.result c.window.ensures code.size code.category says.size says.category says.found (omega arith) (c.fill.ensures.same ∙ c.self.view_is) in
+    (λ e. absurd (cc), λ none. absurd (ended_or_no_code c.args.table.now c.args.self.now end none))
 
 pub returns-clause-ok : goal.returns-clause-ok
 returns-clause-ok c = taken_left c
