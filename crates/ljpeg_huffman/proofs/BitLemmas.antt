@@ -1,0 +1,94 @@
+-- Words of bits and the numbers that they spell.
+use Rattle.std.proofs.Common.{◌≡◌, ℕ, zero, suc, ◌+◌, ◌*◌, ◌/◌, ◌%◌, ◌^◌, ◌<◌, ◌≤◌, Bool, true, false, cond, eqb, List, [], ◌∷◌, ◌++◌, length, refl, sym, ap, ◌∙◌, arith, pow-suc, length-append, suc-add, zero-add, add_comm, one-add}
+use Rattle.std.proofs.lemmas.Nat.{pow-add, shr-shr, mod-pow-add, field_of}
+use Rattle.ljpeg_huffman.specs.Words.{bits_of, number_of}
+
+-- one step of each definition
+pub bits_of-suc : (size number : ℕ) → bits_of (suc size) number ≡ eqb (number / 2 ^ size % 2) 1 ∷ bits_of size number
+unfolding bits_of
+bits_of-suc size number = refl
+
+pub bits_of-zero : (number : ℕ) → bits_of 0 number ≡ []
+unfolding bits_of
+bits_of-zero number = refl
+
+pub number_of-cons : (bit : Bool) (word : List Bool) → number_of (bit ∷ word) ≡ cond bit (2 ^ length word) 0 + number_of word
+unfolding number_of
+number_of-cons bit word = refl
+
+pub number_of-nil : number_of [] ≡ 0
+unfolding number_of
+number_of-nil = refl
+
+pub length-bits_of : (size number : ℕ) → length (bits_of size number) ≡ size
+length-bits_of zero number = rw bits_of-zero
+length-bits_of (suc size) number = rw bits_of-suc (ap suc (length-bits_of size number))
+
+-- one bit as a number
+bit_is : (n a : ℕ) → n < 2 → cond (eqb n 1) a 0 ≡ n * a
+bit_is zero a h = omega arith
+bit_is (suc zero) a h = omega arith
+bit_is (suc (suc n)) a h = absurd (omega arith)
+
+pub number_of-bits_of : (size number : ℕ) → number_of (bits_of size number) ≡ number % 2 ^ size
+number_of-bits_of zero number = rw (bits_of-zero, number_of-nil) (omega arith)
+number_of-bits_of (suc size) number =
+    let low = number_of-bits_of size number in
+    let split : number % 2 ^ suc size ≡ (number / 2 ^ size % 2) * 2 ^ size + number % 2 ^ size = ap (λ k. number % 2 ^ k) (sym (one-add size)) ∙ mod-pow-add number 1 size in
+    let bit = bit_is (number / 2 ^ size % 2) (2 ^ size) (omega arith) in
+    rw (bits_of-suc, number_of-cons, length-bits_of, low, bit) (omega (arith, split))
+
+pub number_of-append : (a b : List Bool) → number_of (a ++ b) ≡ number_of a * 2 ^ length b + number_of b
+number_of-append [] b = rw number_of-nil (omega arith)
+number_of-append (true ∷ a) b =
+    rw (number_of-cons true (a ++ b), number_of-cons true a, length-append, number_of-append a b, pow-add) (omega arith)
+number_of-append (false ∷ a) b =
+    rw (number_of-cons false (a ++ b), number_of-cons false a, number_of-append a b) (omega arith)
+
+pub number_of-lt : (a : List Bool) → number_of a < 2 ^ length a
+number_of-lt [] = rw number_of-nil (omega arith)
+number_of-lt (true ∷ a) = rw (number_of-cons true a, pow-suc) (omega (arith, number_of-lt a))
+number_of-lt (false ∷ a) = rw (number_of-cons false a, pow-suc) (omega (arith, number_of-lt a))
+
+-- a word is its front and its back
+pub bits_of-split : (front back number : ℕ) → bits_of (front + back) number ≡ bits_of front (number / 2 ^ back) ++ bits_of back number
+bits_of-split zero back number = rw (zero-add, bits_of-zero) refl
+bits_of-split (suc front) back number =
+    let e : number / 2 ^ back / 2 ^ front ≡ number / 2 ^ (front + back) = shr-shr number back front ∙ ap (λ n. number / 2 ^ n) (add_comm back front) in
+    rw (suc-add, bits_of-suc (front + back) number, bits_of-suc front (number / 2 ^ back), e, bits_of-split front back number) refl
+
+-- a word does not see what stands above it in the number
+pub bits_of-mod : (size above number : ℕ) → bits_of size (number % 2 ^ (size + above)) ≡ bits_of size number
+bits_of-mod zero above number = rw (bits_of-zero number) (bits_of-zero _)
+bits_of-mod (suc size) above number =
+    let m = number / 2 ^ size in
+    let top : suc size + above ≡ (above + 1) + size = omega arith in
+    let high : number % 2 ^ (suc size + above) / 2 ^ size ≡ m % 2 ^ (above + 1) = ap (λ k. number % 2 ^ k / 2 ^ size) top ∙ field_of number (above + 1) size in
+    let low : m % 2 ^ (above + 1) ≡ (m / 2 % 2 ^ above) * 2 + m % 2 = mod-pow-add m above 1 in
+    let bit : m % 2 ^ (above + 1) % 2 ≡ m % 2 = omega (arith, low) in
+    let next : suc size + above ≡ size + suc above = omega arith in
+    let rest : bits_of size (number % 2 ^ (suc size + above)) ≡ bits_of size number = ap (λ k. bits_of size (number % 2 ^ k)) next ∙ bits_of-mod size (suc above) number in
+    rw (bits_of-suc size number, bits_of-suc size (number % 2 ^ (suc size + above)), high, bit, rest) refl
+
+-- two ways to begin the same bits with words of one length
+pub append_same_size : (a b x y : List Bool) → a ++ x ≡ b ++ y → length a ≡ length b → (a ≡ b) × (x ≡ y)
+append_same_size [] [] x y e h = (refl, e)
+append_same_size [] (c ∷ b) x y e h = absurd (omega arith)
+append_same_size (c ∷ a) [] x y e h = absurd (omega arith)
+append_same_size (c ∷ a) (d ∷ b) x y e h =
+    let tails : a ++ x ≡ b ++ y = cc in
+    let heads : c ≡ d = cc in
+    let r = append_same_size a b x y tails (omega arith) in
+    let first : a ≡ b = r.0 in
+    (cc, r.1)
+
+-- a word that begins the same bits as a longer one begins that one
+pub append_shorter : (a b x y : List Bool) → a ++ x ≡ b ++ y → length a ≤ length b → (rest : List Bool) × (b ≡ a ++ rest)
+append_shorter [] b x y e h = (b, refl)
+append_shorter (c ∷ a) [] x y e h = absurd (omega arith)
+append_shorter (c ∷ a) (d ∷ b) x y e h =
+    let tails : a ++ x ≡ b ++ y = cc in
+    let heads : c ≡ d = cc in
+    let r = append_shorter a b x y tails (omega arith) in
+    let more : b ≡ a ++ r.0 = r.1 in
+    (r.0, cc)

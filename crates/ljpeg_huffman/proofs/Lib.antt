@@ -1,0 +1,8 @@
+pub mod BitLemmas
+pub mod DataLemmas
+pub mod DecodeLemmas
+pub mod OrderLemmas
+pub mod ShortLemmas
+pub mod SpellLemmas
+pub mod TableLemmas
+pub mod WalkLemmas

@@ -1,0 +1,81 @@
+-- Data bits, and the differences that they spell (ITU-T T.81, Annex H.1.2 and F.2.2).
+use Rattle.std.specs.Prelude.{◌≡◌, ℕ, suc, ◌-◌, ◌*◌, ◌^◌, ◌<◌, ◌≤◌, replicate, Bool, false, List, [], ◌∷◌, ◌++◌, length, ◌==◌, nat_lt, if◌then◌else◌, Contains, ℤ, pos, negsuc, ◌-ℤ◌, ◌⊎◌, flat_map, refl}
+use Rattle.ljpeg_huffman.specs.Words.{bits_of, Table, IsPrefix}
+
+-- The bytes of the data: a zero behind an FF is stuffed and taken out. An FF that no zero follows ends them (T.81, F.1.2.3 and B.1.1.5).
+unfoldable pub unstuffed : List ℕ → List ℕ
+unstuffed [] = []
+unstuffed (byte ∷ []) = if byte == 255 then [] else byte ∷ []
+unstuffed (byte ∷ next ∷ bytes) =
+    if byte == 255 then (if next == 0 then 255 ∷ unstuffed bytes else []) else byte ∷ unstuffed (next ∷ bytes)
+
+-- The data bits of a stretch of bytes: eight of each byte, the most significant first.
+unfoldable pub data_bits : List ℕ → List Bool
+data_bits bytes = flat_map (bits_of 8) (unstuffed bytes)
+
+-- The bits that are left where some are held, in the lowest bits of a word, before those of the bytes.
+unfoldable pub bits_left : ℕ → ℕ → List ℕ → List Bool
+bits_left held word bytes = bits_of held word ++ data_bits bytes
+
+-- How many further bits follow a category's code word: none follow category 16 (T.81, H.1.2.2, table H.2).
+abbrev pub further_bits : ℕ → ℕ
+further_bits category = if category == 16 then 0 else category
+
+-- The difference of a category whose further bits spell the number `extra`: where the first of them is 0 it is
+-- negative (T.81, H.1.2.2 and figure F.12). At category 0 it is 0.
+abbrev pub difference : ℕ → ℕ → ℤ
+difference category extra =
+    if category == 16 then pos 32768 else (if nat_lt (2 * extra) (2 ^ category) then pos extra -ℤ pos (2 ^ category - 1) else pos extra)
+
+-- The bits are one code word of the table and its further bits, and stand for this difference.
+pub record SpellsOne (table : Table) (bits : List Bool) (value : ℤ) : Type 0 where
+  pub word : List Bool
+  pub category : ℕ
+  pub extra : ℕ
+  pub listed : Contains table (word, category)
+  pub spelled : bits ≡ word ++ bits_of (further_bits category) extra
+  pub extra_fits : extra < 2 ^ further_bits category
+  pub stands_for : value ≡ difference category extra
+
+-- The bits are, for each difference in order, one code word of the table of its place and its further bits.
+abbrev pub Spells : (ℕ → Table) → List Bool → List ℤ → Type 0
+Spells tables bits [] = bits ≡ []
+Spells tables bits (value ∷ values) =
+    (first : List Bool) × (rest : List Bool) × (bits ≡ first ++ rest) × SpellsOne (tables 0) first value × Spells (λ place. tables (suc place)) rest values
+
+-- Some code word is a prefix of the bits.
+abbrev pub BeginsWithCode : Table → List Bool → Type 0
+BeginsWithCode table bits = (word : List Bool) × (category : ℕ) × Contains table (word, category) × IsPrefix word bits
+
+-- The bits are a proper prefix of some code word.
+abbrev pub IsCutCode : Table → List Bool → Type 0
+IsCutCode table bits =
+    (word : List Bool) × (category : ℕ) × Contains table (word, category) × ((bit : Bool) × (rest : List Bool) × (word ≡ bits ++ bit ∷ rest))
+
+-- The bits begin with a code word, and too few are left for its further bits.
+abbrev pub LacksFurtherBits : Table → List Bool → Type 0
+LacksFurtherBits table bits =
+    (word : List Bool) × (category : ℕ) × Contains table (word, category) × ((rest : List Bool) × (bits ≡ word ++ rest) × (length rest < further_bits category))
+
+-- The bits end within a difference: in its code word, or in its further bits.
+abbrev pub EndsWithin : Table → List Bool → Type 0
+EndsWithin table bits = ((¬ BeginsWithCode table bits) × IsCutCode table bits) ⊎ LacksFurtherBits table bits
+
+-- No code word is a prefix of the bits, and they are no proper prefix of one.
+abbrev pub HasNoCode : Table → List Bool → Type 0
+HasNoCode table bits = (¬ BeginsWithCode table bits) × (¬ IsCutCode table bits)
+
+-- A window has the next 16 of the bits that are held, and zeros where fewer are held.
+pub record IsWindow (held word window : ℕ) : Type 0 where
+  pub small : window < 2 ^ 16
+  pub full : 16 ≤ held → bits_of held word ≡ bits_of 16 window ++ bits_of (held - 16) word
+  pub short : held < 16 → bits_of 16 window ≡ bits_of held word ++ replicate (16 - held) false
+
+-- Category 3 (T.81, table F.1): 000 is -7, 011 is -4, 100 is 4. Category 0 is 0.
+pub difference-example : (difference 3 0 ≡ negsuc 6) × (difference 3 3 ≡ negsuc 3) × (difference 3 4 ≡ pos 4) × (difference 0 0 ≡ pos 0) × (difference 1 0 ≡ negsuc 0) × (difference 15 32767 ≡ pos 32767)
+difference-example = (refl, refl, refl, refl, refl, refl)
+
+-- FF 00 is one byte of data, and FF D9 ends it.
+pub unstuffed-example : unstuffed (255 ∷ 0 ∷ 163 ∷ 255 ∷ 217 ∷ 1 ∷ []) ≡ 255 ∷ 163 ∷ []
+unfolding unstuffed
+unstuffed-example = refl

@@ -1,0 +1,75 @@
+-- Words of bits, and the code words of a table (ITU-T T.81, Annex C).
+use Rattle.std.specs.Prelude.{◌≡◌, ℕ, zero, suc, ◌+◌, ◌-◌, ◌*◌, ◌/◌, ◌%◌, ◌^◌, ◌≤◌, Bool, List, [], ◌∷◌, ◌++◌, length, take, drop, ◌==◌, if◌then◌else◌, AllPairs, All, sum, refl, true, false, Option, Some, None, option_map, unwrap_or, find, nat_lt}
+use Rattle.ljpeg_huffman.specs.declared.table.TableFault.{TableFault}
+use Rattle.ljpeg_huffman.specs.declared.table.TableFault.TheVariants.{Empty, TooMany, Category, Overfull}
+
+-- The lowest bits of a number as a word of this length, the most significant bit first.
+unfoldable pub bits_of : ℕ → ℕ → List Bool
+bits_of zero number = []
+bits_of (suc size) number = (number / 2 ^ size % 2 == 1) ∷ bits_of size number
+
+-- The number that a word spells, the most significant bit first.
+unfoldable pub number_of : List Bool → ℕ
+number_of [] = 0
+number_of (bit ∷ word) = (if bit then 2 ^ length word else 0) + number_of word
+
+-- A table is a list of code words, each with the category that it stands for.
+abbrev pub Table : Type 0
+Table = List (List Bool × ℕ)
+
+-- The code words of one length, one more each, for the categories of that length (T.81, figure C.2).
+unfoldable pub words_of_length : ℕ → ℕ → List ℕ → Table
+words_of_length size code [] = []
+words_of_length size code (category ∷ categories) =
+    (bits_of size code, category) ∷ words_of_length size (suc code) categories
+
+-- The code words from a length on, of which the first is `code`. At each next length the code is doubled (figure C.2).
+unfoldable pub words_from : ℕ → ℕ → List ℕ → List ℕ → Table
+words_from size code [] values = []
+words_from size code (count ∷ counts) values =
+    words_of_length size code (take count values) ++ words_from (suc size) (2 * (code + count)) counts (drop count values)
+
+-- The code words in the order of their values: of length 1 from 0 on, as many as the first count, and so on (Annex C.2).
+unfoldable pub code_words : List ℕ → List ℕ → Table
+code_words counts values = words_from 1 0 counts values
+
+-- How many of the 2^16 words of 16 bits begin with a code word, from a length on.
+unfoldable pub space_from : ℕ → List ℕ → ℕ
+space_from size [] = 0
+space_from size (count ∷ counts) = count * 2 ^ (16 - size) + space_from (suc size) counts
+
+-- The words of 16 bits that begin with a word of at most 16 are those from `low_end` on and below `high_end`.
+abbrev pub low_end : List Bool → ℕ
+low_end word = number_of word * 2 ^ (16 - length word)
+
+abbrev pub high_end : List Bool → ℕ
+high_end word = (number_of word + 1) * 2 ^ (16 - length word)
+
+-- Bits begin with a word.
+abbrev pub IsPrefix : List Bool → List Bool → Type 0
+IsPrefix word bits = (rest : List Bool) × (bits ≡ word ++ rest)
+
+-- No code word is a prefix of another (Annex C asks it of each table).
+abbrev pub IsPrefixFree : Table → Type 0
+IsPrefixFree table = AllPairs (λ a b. (¬ IsPrefix a.0 b.0) × (¬ IsPrefix b.0 a.0)) table
+
+-- What lengths and values make a table: all code words fit their lengths, and each value is a category.
+pub record IsTable (counts values : List ℕ) : Type 0 where
+  pub lengths : length counts ≡ 16
+  pub total : sum counts ≤ length values
+  pub fits : space_from 1 counts ≤ 2 ^ 16
+  pub categories : All (λ v. v ≤ 16) values
+
+-- The first reason for which lengths and values make no table, in this order: they are none, more than 256, a value
+-- is no category, or the code words of some length are more than are left there.
+unfoldable pub table_fault : List ℕ → List ℕ → Option TableFault
+table_fault counts values =
+    if sum counts == 0 then Some Empty
+    else (if nat_lt 256 (sum counts) then Some TooMany
+    else unwrap_or (option_map (λ v. Some (Category v)) (find (nat_lt 16) values))
+    (if nat_lt (2 ^ 16) (space_from 1 counts) then Some Overfull else None))
+
+-- Two code words of one bit, and one of two: 0, 10 and 11 (an example).
+pub code_words-example : code_words (1 ∷ 2 ∷ []) (5 ∷ 7 ∷ 6 ∷ []) ≡ (false ∷ [], 5) ∷ (true ∷ false ∷ [], 7) ∷ (true ∷ true ∷ [], 6) ∷ []
+unfolding code_words words_from words_of_length bits_of
+code_words-example = refl
