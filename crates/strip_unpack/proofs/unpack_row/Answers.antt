@@ -1,0 +1,15 @@
+use Rattle.std.proofs.Common.{ℕ, List, sym, subst, arith}
+use Rattle.strip_unpack.specs.Samples.{Spells, digits_in}
+use Rattle.strip_unpack.proofs.Unpacking.{own_digits}
+use Rattle.strip_unpack.proofs.unpack_row.Goals as goal
+
+pub returns-in-8 : goal.returns-in-8
+returns-in-8 c =
+    let P : ℕ → Type 0 = λ depth. Spells (digits_in c.args.order depth) depth c.unpack_bytes.new.out c.args.bytes.now in
+    let Q : (ℕ → List ℕ) → Type 0 = λ f. Spells f 8 c.unpack_bytes.new.out c.args.bytes.now in
+    subst P (sym c.in-8.is) (subst Q (sym (own_digits c.args.order 8 (omega arith))) c.unpack_bytes.ensures)
+
+pub returns-in_default : goal.returns-in_default
+returns-in_default c =
+    let Q : (ℕ → List ℕ) → Type 0 = λ f. Spells f c.args.depth c.unpack_row.new.out c.args.bytes.now in
+    subst Q (sym (own_digits c.args.order c.args.depth (omega (arith, c.in_default)))) c.unpack_row.ensures
