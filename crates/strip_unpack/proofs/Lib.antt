@@ -1,4 +1,5 @@
 pub mod Digits
+pub mod GroupRows
 pub mod Rows
 pub mod Unpacking
 pub mod Words

@@ -1,6 +1,6 @@
 -- Rows one after the other, in a list that is cut into parts.
-use Rattle.std.proofs.Common.{◌≡◌, ℕ, ◌+◌, ◌*◌, ◌<◌, ◌≤◌, List, ◌++◌, length, take, drop, sym, ap, ◌∙◌, arith}
-use Rattle.std.proofs.lemmas.List.{drop-take, drop_at, length-take-le, take_at}
+use Rattle.std.proofs.Common.{◌≡◌, ℕ, ◌+◌, ◌-◌, ◌*◌, ◌<◌, ◌≤◌, List, [], ◌++◌, length, length-append, take, drop, sym, ap, ◌∙◌, arith}
+use Rattle.std.proofs.lemmas.List.{append-nil, drop_all, drop-take, drop_at, length-take-le, take_at}
 use Rattle.std.proofs.lemmas.Slice.{take-put_mid_below}
 use Rattle.std.proofs.Math.Nat.{mul-le-mul_right}
 use borrow.Rule.Slice.PartMut.{put_mid}
@@ -19,3 +19,11 @@ pub part_written : (n k m : ℕ) (xs ys : List ℕ) → length ys ≡ n → k * 
 part_written n k m xs ys long within =
     let rest = ys ++ drop m (drop (k * n) xs) in
     ap (take n) (drop_at (take (k * n) xs) rest (k * n) (length-take-le (k * n) xs within)) ∙ take_at ys (drop m (drop (k * n) xs)) n long
+
+-- a list whose end was written
+pub end_written : (a : ℕ) (xs rest ys : List ℕ) → length xs ≡ a → put_mid a (length (xs ++ rest) - a) (xs ++ rest) ys ≡ xs ++ ys
+end_written a xs rest ys long =
+    let first = take_at xs rest a long in
+    let after = drop_at xs rest a long in
+    let none : drop (length (xs ++ rest) - a) rest ≡ [] = drop_all _ rest (simp length-append (omega arith)) in
+    rw (first, after, none) (ap (λ zs. xs ++ zs) (append-nil ys))

@@ -6,8 +6,8 @@ use Rattle.std.proofs.lemmas.Bool.{cases_lt, cases_order}
 use Rattle.std.proofs.lemmas.Bool.Decides.{nat_tests}
 use Rattle.std.proofs.lemmas.List.{append-nil, take_more, take_more_set}
 use Rattle.std.proofs.lemmas.List.Concat.{flat_map-append}
-use Rattle.std.proofs.lemmas.List.Elements.{All-nil, All-push}
-use Rattle.std.proofs.lemmas.Nat.{and_mask, one_shl, pow-add, pow_pos, mod_below, shr_below, or_shifted}
+use Rattle.std.proofs.lemmas.List.Elements.{All-append, All-nil, All-push}
+use Rattle.std.proofs.lemmas.Nat.{and_mask, field_of, mod-mul-add, mod-pow-add, one_shl, pow-add, pow_pos, mod_below, shr_below, or_shifted}
 use Rattle.std.proofs.Math.Nat.{mod-eq_of_lt, mul-le-mul_right, pow-le-pow_right}
 use Rattle.tiff_dirs.specs.declared.Order.{Order}
 use Rattle.strip_unpack.specs.Samples.{Spells, digits, byte_digits, digits_in, word_bytes}
@@ -68,10 +68,8 @@ joined count register byte few below small =
     rw whole (or_shifted register 8 byte small)
 
 -- the lowest digits, by a mask
-pub masked : (rest register : ℕ) → rest ≤ 16 → bit_and register (1 * 2 ^ rest % 4294967296 - 1) ≡ register % 2 ^ rest
-masked rest register few =
-    let one : 1 * 2 ^ rest % 4294967296 ≡ 2 ^ rest = one_shl rest 32 (omega arith) in
-    rw one (and_mask register rest)
+pub masked : (width rest register : ℕ) → rest < width → bit_and register (1 * 2 ^ rest % 2 ^ width - 1) ≡ register % 2 ^ rest
+masked width rest register few = let one = one_shl rest width few in rw one (and_mask register rest)
 
 -- the digits that come out fit 16 bits
 pub sample_fits : (depth count rest register : ℕ) → depth ≤ 16 → depth + rest ≡ count → register < 2 ^ count → register / 2 ^ rest < 65536
@@ -81,23 +79,49 @@ sample_fits depth count rest register small whole below =
     let h : register / 2 ^ rest < 2 ^ depth = shr_below register depth rest (subst P (sym whole) below) in
     omega arith
 
+-- the lower digits of lower digits
+mod-pow-mod : (n j k : ℕ) → n % 2 ^ (j + k) % 2 ^ k ≡ n % 2 ^ k
+mod-pow-mod n j k = ap (λ m. m % 2 ^ k) (mod-pow-add n j k) ∙ mod-mul-add (n / 2 ^ k % 2 ^ j) (2 ^ k) (n % 2 ^ k) (mod_below n (2 ^ k) (pow_pos k))
+
 -- before the first byte
 pub nothing_yet : (depth : ℕ) → Unpacked depth 0 0 [] []
 unfolding digits
 nothing_yet depth = record { fits = All-nil (λ x. x < 2 ^ depth); below = omega arith; spelled = refl }
 
 -- the next byte of a row
-pub next_byte : (depth count register k byte : ℕ) (samples bytes : List ℕ) → k < length bytes → byte ≡ get_or bytes k 0 → byte < 256 → Unpacked depth count register samples (take k bytes) → Unpacked depth (count + 8) (register * 256 + byte) samples (take (k + 1) bytes)
-next_byte depth count register k byte samples bytes within is small u =
-    let P : List ℕ → Type 0 = λ xs. Unpacked depth (count + 8) (register * 256 + byte) samples xs in
-    let more = take_more bytes k 0 within in
-    subst P (sym (more ∙ ap (λ x. take k bytes ++ x ∷ []) (sym is))) (with_byte depth count register byte samples (take k bytes) small u)
+pub next_byte : (depth count register wider k next : ℕ) (samples bytes : List ℕ) → wider ≡ register * 256 + get_or bytes k 0 → next ≡ k + 1 → k < length bytes → get_or bytes k 0 < 256 → Unpacked depth count register samples (take k bytes) → Unpacked depth (count + 8) wider samples (take next bytes)
+next_byte depth count register wider k next samples bytes is step within small u =
+    let P : List ℕ → Type 0 = λ xs. Unpacked depth (count + 8) wider samples xs in
+    let Q : ℕ → Type 0 = λ r. Unpacked depth (count + 8) r samples (take k bytes ++ get_or bytes k 0 ∷ []) in
+    let more = ap (λ n. take n bytes) step ∙ take_more bytes k 0 within in
+    subst P (sym more) (subst Q (sym is) (with_byte depth count register (get_or bytes k 0) samples (take k bytes) small u))
 
 -- the next sample of a row
-pub next_sample : (depth count rest register i sample : ℕ) (out bytes : List ℕ) → depth + rest ≡ count → i < length out → sample ≡ register / 2 ^ rest → Unpacked depth count register (take i out) bytes → Unpacked depth rest (register % 2 ^ rest) (take (i + 1) (set out i sample)) bytes
-next_sample depth count rest register i sample out bytes whole within is u =
+pub next_sample : (depth count rest register i next sample : ℕ) (out bytes : List ℕ) → next ≡ i + 1 → depth + rest ≡ count → i < length out → sample ≡ register / 2 ^ rest → Unpacked depth count register (take i out) bytes → Unpacked depth rest (register % 2 ^ rest) (take next (set out i sample)) bytes
+next_sample depth count rest register i next sample out bytes step whole within is u =
     let P : List ℕ → Type 0 = λ xs. Unpacked depth rest (register % 2 ^ rest) xs bytes in
-    subst P (sym (take_more_set out i sample within ∙ ap (λ x. take i out ++ x ∷ []) is)) (with_sample depth count rest register (take i out) bytes whole u)
+    let more : take next (set out i sample) ≡ take i out ++ register / 2 ^ rest ∷ [] = ap (λ n. take n (set out i sample)) step ∙ take_more_set out i sample within ∙ ap (λ x. take i out ++ x ∷ []) is in
+    subst P (sym more) (with_sample depth count rest register (take i out) bytes whole u)
+
+-- the next sample of a group of which the word holds all digits
+pub next_field : (depth count rest word i next sample : ℕ) (out bytes : List ℕ) → next ≡ i + 1 → depth + rest ≡ count → i < length out → sample ≡ word / 2 ^ rest % 2 ^ depth → Unpacked depth count (word % 2 ^ count) (take i out) bytes → Unpacked depth rest (word % 2 ^ rest) (take next (set out i sample)) bytes
+next_field depth count rest word i next sample out bytes step whole within is u =
+    let Q : ℕ → Type 0 = λ n. Unpacked depth count (word % 2 ^ n) (take i out) bytes in
+    let P : ℕ → Type 0 = λ r. Unpacked depth rest r (take next (set out i sample)) bytes in
+    let low = mod-pow-mod word depth rest in
+    subst P low (next_sample depth count rest (word % 2 ^ (depth + rest)) i next sample out bytes step whole within (is ∙ sym (field_of word depth rest)) (subst Q (sym whole) u))
+
+-- the first field of a word
+pub whole_word : (depth count word : ℕ) (samples bytes : List ℕ) → Unpacked depth count word samples bytes → Unpacked depth count (word % 2 ^ count) samples bytes
+whole_word depth count word samples bytes u =
+    let P : ℕ → Type 0 = λ r. Unpacked depth count r samples bytes in
+    subst P (sym (mod-eq_of_lt u.below)) u
+
+-- a group is whole
+pub group_end : (depth word : ℕ) (samples bytes : List ℕ) → Unpacked depth 0 (word % 2 ^ 0) samples bytes → Unpacked depth 0 0 samples bytes
+group_end depth word samples bytes u =
+    let P : ℕ → Type 0 = λ r. Unpacked depth 0 r samples bytes in
+    subst P (omega arith) u
 
 -- a row of n samples has a place for one more whose digits are read
 pub has_place : (depth i n read : ℕ) → 8 ≤ depth → read ≤ n * depth + 7 → i * depth + depth ≤ read → i < n
@@ -124,3 +148,22 @@ unfolding digits_in
 own_digits order depth less =
     let other : eqb depth 16 ≡ false = grind (arith, nat_tests) in
     ap (λ b. cond b (λ x. byte_digits (word_bytes order x)) (digits depth)) other
+
+-- whole groups, and the rest of the row after them
+pub spells_joined : (depth : ℕ) (xs ys bytes more : List ℕ) → All (λ x. x < 2 ^ depth) xs → byte_digits bytes ≡ flat_map (digits depth) xs → Spells (digits depth) depth ys more → Spells (digits depth) depth (xs ++ ys) (bytes ++ more)
+spells_joined depth xs ys bytes more fits spelled rest = record {
+  fits = All-append (λ x. x < 2 ^ depth) xs ys fits rest.fits;
+  padding = rest.padding;
+  within_byte = rest.within_byte;
+  spelled =
+    flat_map-append (digits 8) bytes more
+    ∙ ap (λ ds. ds ++ byte_digits more) spelled
+    ∙ ap (λ ds. flat_map (digits depth) xs ++ ds) rest.spelled
+    ∙ sym (append_assoc (flat_map (digits depth) xs) (flat_map (digits depth) ys) rest.padding)
+    ∙ ap (λ ds. ds ++ rest.padding) (sym (flat_map-append (digits depth) xs ys));
+}
+
+-- the samples of whole groups
+pub groups_spell : (depth : ℕ) (samples bytes : List ℕ) → Unpacked depth 0 0 samples bytes → byte_digits bytes ≡ flat_map (digits depth) samples
+unfolding digits
+groups_spell depth samples bytes u = u.spelled ∙ append-nil (flat_map (digits depth) samples)

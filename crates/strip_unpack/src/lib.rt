@@ -10,6 +10,7 @@ use std::error::Error;
 use std::fmt;
 use tiff_dirs::Order;
 
+mod groups;
 mod packed;
 
 /// There are fewer bytes than the samples take.
@@ -80,6 +81,7 @@ fn unpack_row(bytes: &[u8], depth: u32, order: Order, out: &mut [u16])
 {
     match depth {
         8 => unpack_bytes(bytes, out),
+        12 => groups::unpack_row_12(bytes, out),
         16 => unpack_words(bytes, order, out),
         _ => packed::unpack_row(bytes, depth, out),
     }

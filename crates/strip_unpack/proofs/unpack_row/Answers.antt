@@ -13,3 +13,9 @@ pub returns-in_default : goal.returns-in_default
 returns-in_default c =
     let Q : (ℕ → List ℕ) → Type 0 = λ f. Spells f c.args.depth c.unpack_row.new.out c.args.bytes.now in
     subst Q (sym (own_digits c.args.order c.args.depth (omega (arith, c.in_default)))) c.unpack_row.ensures
+
+pub returns-in-12 : goal.returns-in-12
+returns-in-12 c =
+    let P : ℕ → Type 0 = λ depth. Spells (digits_in c.args.order depth) depth c.unpack_row_12.new.out c.args.bytes.now in
+    let Q : (ℕ → List ℕ) → Type 0 = λ f. Spells f 12 c.unpack_row_12.new.out c.args.bytes.now in
+    subst P (sym c.in-12.is) (subst Q (sym (own_digits c.args.order 12 (omega arith))) c.unpack_row_12.ensures)

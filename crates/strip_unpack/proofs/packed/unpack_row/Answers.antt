@@ -13,7 +13,7 @@ overflow_cast-out c =
     let l = c.loop-byte in
     let byte = c.type_inv.bytes l.byte-index in
     let register = joined l.count l.pending c.from.result (omega arith) l.invariant.unpacked.below (omega arith) in
-    let u = next_byte c.args.depth l.count l.pending l.byte-index c.from.result _ c.args.bytes.now (omega arith) c.from.ensures (omega arith) l.invariant.unpacked in
+    let u = next_byte c.args.depth l.count l.pending (l.pending * 256 + c.from.result) l.byte-index (l.byte-index + 1) _ c.args.bytes.now (ap (λ b. l.pending * 256 + b) c.from.ensures) refl (omega arith) (omega arith) l.invariant.unpacked in
     let fits = sample_fits c.args.depth (l.count + 8) (l.count + 8 - c.args.depth) (l.pending * 256 + c.from.result) (omega arith) (omega arith) u.below in
     rw register (omega arith)
 
@@ -22,14 +22,14 @@ loop-byte-preserved c =
     let l = c.loop-byte in
     let byte = c.type_inv.bytes l.byte-index in
     let register = joined l.count l.pending c.from.result (omega arith) l.invariant.unpacked.below (omega arith) in
-    let u = next_byte c.args.depth l.count l.pending l.byte-index c.from.result _ c.args.bytes.now (omega arith) c.from.ensures (omega arith) l.invariant.unpacked in
+    let u = next_byte c.args.depth l.count l.pending (l.pending * 256 + c.from.result) l.byte-index (l.byte-index + 1) _ c.args.bytes.now (ap (λ b. l.pending * 256 + b) c.from.ensures) refl (omega arith) (omega arith) l.invariant.unpacked in
     elim c.if-depth-count.branch [
       | then-depth-count w ↦
           let rest = l.count + 8 - c.args.depth in
           let pending = l.pending * 256 + c.from.result in
           let place = has_place c.args.depth l.i (length c.args.out.now) (8 * (l.byte-index + 1)) (omega arith) (omega arith) (omega arith) in
-          let mask = masked rest pending (omega arith) in
-          let v = next_sample c.args.depth (l.count + 8) rest pending l.i (pending / 2 ^ rest) l.out (take (l.byte-index + 1) c.args.bytes.now) (omega arith) (omega arith) refl u in
+          let mask = masked 32 rest pending (omega arith) in
+          let v = next_sample c.args.depth (l.count + 8) rest pending l.i (l.i + 1) (pending / 2 ^ rest) l.out (take (l.byte-index + 1) c.args.bytes.now) refl (omega arith) (omega arith) refl u in
           rw (w.i-is, w.count-is, w.out-is, w.pending-is, register, mask) (record { read = omega arith; few = omega arith; unpacked = v })
       | else-depth-count w ↦ rw (w.i-is, w.count-is, w.out-is, w.pending-is, register) (record { read = omega arith; few = omega arith; unpacked = u })
     ]
