@@ -156,11 +156,11 @@ spells_joined depth xs ys bytes more fits spelled rest = record {
   padding = rest.padding;
   within_byte = rest.within_byte;
   spelled =
-    flat_map-append (digits 8) bytes more
-    ∙ ap (λ ds. ds ++ byte_digits more) spelled
-    ∙ ap (λ ds. flat_map (digits depth) xs ++ ds) rest.spelled
-    ∙ sym (append_assoc (flat_map (digits depth) xs) (flat_map (digits depth) ys) rest.padding)
-    ∙ ap (λ ds. ds ++ rest.padding) (sym (flat_map-append (digits depth) xs ys));
+      flat_map-append (digits 8) bytes more
+      ∙ ap (λ ds. ds ++ byte_digits more) spelled
+      ∙ ap (λ ds. flat_map (digits depth) xs ++ ds) rest.spelled
+      ∙ sym (append_assoc (flat_map (digits depth) xs) (flat_map (digits depth) ys) rest.padding)
+      ∙ ap (λ ds. ds ++ rest.padding) (sym (flat_map-append (digits depth) xs ys));
 }
 
 -- the samples of whole groups

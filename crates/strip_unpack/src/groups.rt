@@ -53,3 +53,67 @@ pub(crate) fn unpack_row_12(bytes: &[u8], out: &mut [u16])
     unpack_groups_12(groups, &bytes[..groups * 3], &mut out[..groups * 2]);
     unpack_row(&bytes[groups * 3..], 12, &mut out[groups * 2..]);
 }
+
+/// Unpacks groups of four samples of 10 bits, in five bytes each.
+fn unpack_groups_10(groups: usize, bytes: &[u8], out: &mut [u16])
+    requires bytes { length bytes.now ≡ groups * 5 }
+    requires out { length out.old ≡ groups * 4 }
+    ensures fits { All (λ x. x < 2 ^ 10) out.new }
+    ensures spelled { byte_digits bytes.now ≡ flat_map (digits 10) out.new }
+{
+    for group in 0..groups {
+        let at = group * 5;
+        let word = with_byte(u64::from(bytes[at]), bytes[at + 1]);
+        let word = with_byte(word, bytes[at + 2]);
+        let word = with_byte(word, bytes[at + 3]);
+        let word = with_byte(word, bytes[at + 4]);
+        let first = group * 4;
+        out[first] = field(word, 30, 10);
+        out[first + 1] = field(word, 20, 10);
+        out[first + 2] = field(word, 10, 10);
+        out[first + 3] = field(word, 0, 10);
+    }
+}
+
+/// Unpacks a row of samples of 10 bits.
+pub(crate) fn unpack_row_10(bytes: &[u8], out: &mut [u16])
+    requires { length bytes.now ≡ row_bytes 10 (length out.old) }
+    ensures { Spells (digits 10) 10 out.new bytes.now }
+{
+    let groups = out.len() / 4;
+    unpack_groups_10(groups, &bytes[..groups * 5], &mut out[..groups * 4]);
+    unpack_row(&bytes[groups * 5..], 10, &mut out[groups * 4..]);
+}
+
+/// Unpacks groups of four samples of 14 bits, in seven bytes each.
+fn unpack_groups_14(groups: usize, bytes: &[u8], out: &mut [u16])
+    requires bytes { length bytes.now ≡ groups * 7 }
+    requires out { length out.old ≡ groups * 4 }
+    ensures fits { All (λ x. x < 2 ^ 14) out.new }
+    ensures spelled { byte_digits bytes.now ≡ flat_map (digits 14) out.new }
+{
+    for group in 0..groups {
+        let at = group * 7;
+        let word = with_byte(u64::from(bytes[at]), bytes[at + 1]);
+        let word = with_byte(word, bytes[at + 2]);
+        let word = with_byte(word, bytes[at + 3]);
+        let word = with_byte(word, bytes[at + 4]);
+        let word = with_byte(word, bytes[at + 5]);
+        let word = with_byte(word, bytes[at + 6]);
+        let first = group * 4;
+        out[first] = field(word, 42, 14);
+        out[first + 1] = field(word, 28, 14);
+        out[first + 2] = field(word, 14, 14);
+        out[first + 3] = field(word, 0, 14);
+    }
+}
+
+/// Unpacks a row of samples of 14 bits.
+pub(crate) fn unpack_row_14(bytes: &[u8], out: &mut [u16])
+    requires { length bytes.now ≡ row_bytes 14 (length out.old) }
+    ensures { Spells (digits 14) 14 out.new bytes.now }
+{
+    let groups = out.len() / 4;
+    unpack_groups_14(groups, &bytes[..groups * 7], &mut out[..groups * 4]);
+    unpack_row(&bytes[groups * 7..], 14, &mut out[groups * 4..]);
+}

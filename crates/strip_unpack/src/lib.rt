@@ -81,7 +81,9 @@ fn unpack_row(bytes: &[u8], depth: u32, order: Order, out: &mut [u16])
 {
     match depth {
         8 => unpack_bytes(bytes, out),
+        10 => groups::unpack_row_10(bytes, out),
         12 => groups::unpack_row_12(bytes, out),
+        14 => groups::unpack_row_14(bytes, out),
         16 => unpack_words(bytes, order, out),
         _ => packed::unpack_row(bytes, depth, out),
     }

@@ -1,8 +1,7 @@
-use Rattle.std.proofs.Common.{ℕ, List, ◌≡◌, ◌+◌, ◌*◌, ◌<◌, length, set, take, refl, sym, ap, ◌∙◌, arith}
-use Rattle.std.specs.List.{flat_map}
-use Rattle.std.proofs.lemmas.List.{length-set, take_all}
-use Rattle.strip_unpack.specs.Samples.{byte_digits, digits}
-use Rattle.strip_unpack.proofs.Unpacking.{group_end, groups_spell, next_byte, next_field, nothing_yet, whole_word}
+use Rattle.std.proofs.Common.{◌+◌, ◌*◌, set, take, refl, ◌∙◌, arith}
+use Rattle.std.proofs.lemmas.List.{length-set}
+use Rattle.strip_unpack.proofs.GroupRows.{all_groups}
+use Rattle.strip_unpack.proofs.Unpacking.{group_end, next_byte, next_field, nothing_yet, whole_word}
 use Rattle.strip_unpack.proofs.groups.unpack_groups_12.Goals as goal
 
 pub loop-group-init : goal.loop-group-init
@@ -30,6 +29,4 @@ loop-group-preserved c =
 pub returns-clause-spelled : goal.returns-clause-spelled
 returns-clause-spelled c =
     let l = c.loop-group in
-    let bytes = take_all (l.group * 3) c.args.bytes.now (omega arith) in
-    let samples = take_all (l.group * 2) l.out (omega arith) in
-    ap byte_digits (sym bytes) ∙ groups_spell 12 _ _ l.invariant ∙ ap (flat_map (digits 12)) samples
+    all_groups 12 (l.group * 2) (l.group * 3) l.out c.args.bytes.now (omega arith) (omega arith) l.invariant
