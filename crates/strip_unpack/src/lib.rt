@@ -12,6 +12,8 @@ use tiff_dirs::Order;
 
 mod groups;
 mod packed;
+#[cfg(test)]
+mod tests;
 
 /// There are fewer bytes than the samples take.
 #[derive(Clone, Copy, Debug, PartialEq, Eq)]
