@@ -29,12 +29,12 @@ two_items : (a b x y : ℕ) → a ≡ x → b ≡ y → a ∷ b ∷ [] ≡ x ∷
 two_items a b x y p q = cc
 
 -- what reads as a word has the word's bytes, lowest byte first
-little_back : (a b : ℕ) (rest : List ℕ) → a < 256 → b < 256 → word_bytes Little (little_number 2 (a ∷ b ∷ rest)) ≡ a ∷ b ∷ []
+pub little_back : (a b : ℕ) (rest : List ℕ) → a < 256 → b < 256 → word_bytes Little (little_number 2 (a ∷ b ∷ rest)) ≡ a ∷ b ∷ []
 unfolding word_bytes
 little_back a b rest p q = two_items _ _ a b (omega arith) (omega arith)
 
 -- and highest byte first
-big_back : (a b : ℕ) (rest : List ℕ) → a < 256 → b < 256 → word_bytes Big (big_number 2 (a ∷ b ∷ rest)) ≡ a ∷ b ∷ []
+pub big_back : (a b : ℕ) (rest : List ℕ) → a < 256 → b < 256 → word_bytes Big (big_number 2 (a ∷ b ∷ rest)) ≡ a ∷ b ∷ []
 unfolding word_bytes
 big_back a b rest p q = two_items _ _ a b (omega arith) (omega arith)
 

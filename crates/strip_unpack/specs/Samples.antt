@@ -46,3 +46,9 @@ part_at n k xs = take n (drop (k * n) xs)
 pub record SpellsRows (order : Order) (depth rows cols : ℕ) (samples bytes : List ℕ) : Type 0 where
   pub count : length samples ≡ rows * cols
   pub row : (k : ℕ) → k < rows → Spells (digits_in order depth) depth (part_at cols k samples) (part_at (row_bytes depth cols) k bytes)
+
+-- bytes spell exactly one list of samples
+pub record HasOneSpelling (order : Order) (depth rows cols : ℕ) (bytes : List ℕ) : Type 0 where
+  pub samples : List ℕ
+  pub spelled : SpellsRows order depth rows cols samples bytes
+  pub only : (others : List ℕ) → SpellsRows order depth rows cols others bytes → others ≡ samples

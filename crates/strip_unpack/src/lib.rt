@@ -2,8 +2,9 @@
 //! "FillOrder" 1; DNG 1.6, "BitsPerSample").
 #![tactic(auto)]
 
-ghost use Rattle.std.specs.Prelude.{◌≡◌, ◌+◌, ◌*◌, ◌≤◌, ◌<◌, ◌↔◌, length, OnOk, OnErr, IsErr, IfErr};
-ghost use Rattle.strip_unpack.specs.Samples.{Spells, SpellsRows, digits, digits_in, needed_bytes, row_bytes};
+ghost use Rattle.std.specs.Prelude.{ℕ, List, ◌≡◌, ◌+◌, ◌*◌, ◌≤◌, ◌<◌, ◌↔◌, length, OnOk, OnErr, IsErr, IfErr};
+ghost use Rattle.tiff_dirs.specs.declared.Order.{Order as FileOrder};
+ghost use Rattle.strip_unpack.specs.Samples.{HasOneSpelling, Spells, SpellsRows, digits, digits_in, needed_bytes, row_bytes};
 
 use byteorder::{BigEndian, ByteOrder, LittleEndian};
 use std::error::Error;
@@ -73,6 +74,12 @@ pub fn unpack(
     }
     Ok(())
 }
+
+/// The law that [`unpack`] stands on: bytes that are enough for the rows spell exactly one list of samples.
+pub fn one_spelling()
+    ensures { (order : FileOrder) (depth rows cols : ℕ) (bytes : List ℕ) → depth ≤ 16
+        → needed_bytes depth rows cols ≤ length bytes → HasOneSpelling order depth rows cols bytes }
+{}
 
 /// Unpacks one row.
 fn unpack_row(bytes: &[u8], depth: u32, order: Order, out: &mut [u16])
