@@ -25,35 +25,6 @@ fn field(word: u64, below: u32, depth: u32) -> u16
     ((word >> below) & ((1 << depth) - 1)) as u16
 }
 
-/// Unpacks groups of two samples of 12 bits, in three bytes each.
-fn unpack_groups_12(groups: usize, bytes: &[u8], out: &mut [u16])
-    requires bytes { length bytes.now ≡ groups * 3 }
-    requires out { length out.old ≡ groups * 2 }
-    ensures fits { All (λ x. x < 2 ^ 12) out.new }
-    ensures spelled { byte_digits bytes.now ≡ flat_map (digits 12) out.new }
-{
-    for group in 0..groups {
-        let at = group * 3;
-        let word = with_byte(
-            with_byte(u64::from(bytes[at]), bytes[at + 1]),
-            bytes[at + 2],
-        );
-        let first = group * 2;
-        out[first] = field(word, 12, 12);
-        out[first + 1] = field(word, 0, 12);
-    }
-}
-
-/// Unpacks a row of samples of 12 bits.
-pub(crate) fn unpack_row_12(bytes: &[u8], out: &mut [u16])
-    requires { length bytes.now ≡ row_bytes 12 (length out.old) }
-    ensures { Spells (digits 12) 12 out.new bytes.now }
-{
-    let groups = out.len() / 2;
-    unpack_groups_12(groups, &bytes[..groups * 3], &mut out[..groups * 2]);
-    unpack_row(&bytes[groups * 3..], 12, &mut out[groups * 2..]);
-}
-
 /// Unpacks groups of four samples of 10 bits, in five bytes each.
 fn unpack_groups_10(groups: usize, bytes: &[u8], out: &mut [u16])
     requires bytes { length bytes.now ≡ groups * 5 }
@@ -83,6 +54,35 @@ pub(crate) fn unpack_row_10(bytes: &[u8], out: &mut [u16])
     let groups = out.len() / 4;
     unpack_groups_10(groups, &bytes[..groups * 5], &mut out[..groups * 4]);
     unpack_row(&bytes[groups * 5..], 10, &mut out[groups * 4..]);
+}
+
+/// Unpacks groups of two samples of 12 bits, in three bytes each.
+fn unpack_groups_12(groups: usize, bytes: &[u8], out: &mut [u16])
+    requires bytes { length bytes.now ≡ groups * 3 }
+    requires out { length out.old ≡ groups * 2 }
+    ensures fits { All (λ x. x < 2 ^ 12) out.new }
+    ensures spelled { byte_digits bytes.now ≡ flat_map (digits 12) out.new }
+{
+    for group in 0..groups {
+        let at = group * 3;
+        let word = with_byte(
+            with_byte(u64::from(bytes[at]), bytes[at + 1]),
+            bytes[at + 2],
+        );
+        let first = group * 2;
+        out[first] = field(word, 12, 12);
+        out[first + 1] = field(word, 0, 12);
+    }
+}
+
+/// Unpacks a row of samples of 12 bits.
+pub(crate) fn unpack_row_12(bytes: &[u8], out: &mut [u16])
+    requires { length bytes.now ≡ row_bytes 12 (length out.old) }
+    ensures { Spells (digits 12) 12 out.new bytes.now }
+{
+    let groups = out.len() / 2;
+    unpack_groups_12(groups, &bytes[..groups * 3], &mut out[..groups * 2]);
+    unpack_row(&bytes[groups * 3..], 12, &mut out[groups * 2..]);
 }
 
 /// Unpacks groups of four samples of 14 bits, in seven bytes each.

@@ -1,5 +1,6 @@
 // Rows that were packed by a script of Python's strings of binary digits, with ones after the last sample of a row.
 use super::*;
+use std::test::Fail;
 use tiff_dirs::Order;
 
 // Two rows of five samples, and the bytes that spell them.
@@ -110,7 +111,7 @@ fn unpacks_two_rows(rt: HostRuntime) {
 }
 
 #[test]
-fn tells_what_is_short(rt: HostRuntime) {
+fn tells_what_is_short(rt: HostRuntime) -> Result<(), Fail> {
     let mut out = [7; 2];
     let short = Short { needed: 3, had: 2 };
     assert_eq!(rt;
@@ -129,4 +130,7 @@ fn tells_what_is_short(rt: HostRuntime) {
     );
     assert_eq!(rt; out, [0xabc, 0xdef]);
     assert_eq!(rt; unpack(&[], 12, Order::Big, 0, 2, &mut []), Ok(()));
+    let text = format!(in rt.alloc(); "{short}")?;
+    assert_eq!(rt; text.as_str(), "the samples take 3 bytes, and there are 2");
+    Ok(())
 }
