@@ -1,6 +1,6 @@
 -- What each way for a run to end gives of its promise.
-use Rattle.std.proofs.Common.{◌≡◌, ℕ, ◌+◌, ◌^◌, ◌<◌, ◌≤◌, ◌⊎◌, inl, inr, true, false, cond, nat_lt, List, [], ◌∷◌, ◌++◌, length, take, Option, None, Some, Result, Ok, Err, refl, sym, ◌∙◌, ap, subst, arith, length-append}
-use Rattle.std.specs.Prelude.{IfSome, IsErrOf, OnOk, ⊤}
+use Rattle.std.proofs.Common.{◌≡◌, ℕ, ◌+◌, ◌^◌, ◌<◌, ◌≤◌, ◌⊎◌, inl, inr, List, [], ◌++◌, length, take, Option, None, Some, Result, Ok, Err, refl, sym, ◌∙◌, ap, subst, arith, length-append}
+use Rattle.std.specs.Prelude.{IfSome, IsErrOf, OnOk}
 use Rattle.std.proofs.lemmas.Bool.{cases_lt, lt-ltb, le-ltb}
 use Rattle.std.proofs.lemmas.List.{append-nil, take-append-le}
 use Rattle.raw_io.specs.Outside.{Appends, IsFrontOf, Rises, Takes}
@@ -14,8 +14,7 @@ use Rattle.developer.specs.Words.{Options}
 use Rattle.developer.specs.Develop.{develop}
 use Rattle.developer.specs.Replies.{refusal_line, usage_line}
 use Rattle.developer.specs.Transcript.{Transcript, answers_of, by_frame, by_script, by_told_frame, by_told_script, by_words, max_script}
-use Rattle.developer.specs.Run.{Call, Completes, Ends, IsCalled, IsFront, NoFault, status_after}
-use Rattle.developer.specs.Writes.{Writes}
+use Rattle.developer.specs.Run.{Call, Completes, Ends, IsCalled, status_after}
 use Rattle.developer.specs.declared.answer.AnswerFault.{AnswerFault}
 use Rattle.developer.specs.declared.answer.AnswerFault.TheVariants.{Write}
 use Rattle.developer.specs.declared.answer.AnswerFault.TheVariants as faults

@@ -1,5 +1,5 @@
 -- The bytes of an image, row by row.
-use Rattle.std.proofs.Common.{◌≡◌, ℕ, ◌+◌, ◌*◌, ◌-◌, ◌<◌, ◌≤◌, List, [], ◌++◌, length, take, drop, refl, sym, ◌∙◌, ap, subst, arith}
+use Rattle.std.proofs.Common.{◌≡◌, ℕ, ◌+◌, ◌*◌, ◌-◌, ◌<◌, ◌≤◌, List, [], ◌++◌, length, take, drop, sym, ◌∙◌, ap, arith}
 use Rattle.std.proofs.lemmas.List.{take-append-drop}
 use Rattle.plane_view.specs.Plane.{Plane, IsWhole, crop}
 use Rattle.plane_view.specs.Rectangles.{LiesIn, rect_of}
@@ -7,7 +7,7 @@ use Rattle.plane_view.specs.declared.Rect.{Rect}
 use Rattle.plane_view.proofs.Crops.{crop_all, crop_more, crop_none, length-crop}
 use Rattle.dev_settings.specs.declared.command.Format.{Format}
 use Rattle.dev_settings.specs.declared.command.Format.TheVariants.{Ppm}
-use Rattle.image_out.specs.Image.{image_of, pixels_of, ppm_head_of, reply_head_of}
+use Rattle.image_out.specs.Image.{pixels_of, ppm_head_of, reply_head_of}
 use Rattle.image_out.specs.ImageLaws.{length-image_of, pixels_of-append}
 use Rattle.raw_io.specs.Outside.{IsFrontOf}
 use Rattle.developer.specs.Replies.{image, image_reply}

@@ -1,10 +1,9 @@
 -- The answers to the lines of a script, one after the other.
-use Rattle.std.proofs.Common.{◌≡◌, ℕ, nat_eq, false, length, List, [], ◌∷◌, ◌++◌, Result, Ok, Err, refl, sym, ◌∙◌, ap, subst, append_assoc}
+use Rattle.std.proofs.Common.{◌≡◌, ℕ, nat_eq, false, length, List, [], ◌∷◌, ◌++◌, Ok, Err, refl, sym, ◌∙◌, ap, append_assoc}
 use Rattle.std.proofs.lemmas.Grind.{flat_map-append}
 use Rattle.std.proofs.lemmas.List.{append-nil}
 use Rattle.plane_view.specs.Plane.{Plane}
 use Rattle.dev_settings.specs.Lines.{Lines, all_lines, last_line, lines_of, unended, with_first}
-use Rattle.raw_io.specs.Outside.{IsFrontOf}
 use Rattle.developer.specs.Replies.{answer_of}
 use Rattle.developer.specs.Transcript.{answers_of}
 use Rattle.developer.specs.Writes.{Writes}

@@ -1,10 +1,10 @@
 -- Writing one piece after another.
-use Rattle.std.proofs.Common.{◌≡◌, ℕ, ◌+◌, ◌-◌, ◌^◌, ◌<◌, ◌≤◌, ◌⊎◌, inl, inr, List, [], ◌∷◌, ◌++◌, take, drop, Result, Ok, Err, refl, sym, ◌∙◌, ap, subst, append_assoc, arith}
-use Rattle.std.specs.Prelude.{IsErrOf, OnOk}
+use Rattle.std.proofs.Common.{◌≡◌, ℕ, ◌≤◌, inl, inr, List, [], ◌++◌, take, drop, Result, Ok, Err, refl, sym, ◌∙◌, ap, subst, append_assoc, arith}
+use Rattle.std.specs.Prelude.{IsErrOf}
 use Rattle.std.proofs.lemmas.Bool.{cases_lt}
 use Rattle.std.proofs.lemmas.List.{append-nil, take-append-drop}
 use Rattle.std.proofs.lemmas.Result.{on_ok_weaker}
-use Rattle.raw_io.specs.Outside.{Appends, IsFrontOf, Rises}
+use Rattle.raw_io.specs.Outside.{IsFrontOf, Rises}
 use Rattle.developer.specs.Writes.{Writes}
 use Rattle.developer.specs.declared.answer.AnswerFault.{AnswerFault}
 use Rattle.developer.specs.declared.answer.AnswerFault.TheVariants.{Write}

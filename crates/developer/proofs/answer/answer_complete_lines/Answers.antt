@@ -1,4 +1,3 @@
-use Rattle.std.proofs.Common.{◌≡◌}
 use Rattle.std.proofs.lemmas.Result.{err_from_is_err_and}
 use Rattle.developer.proofs.Lines.{answered_none, answered_more, answered_stops, answered_all, answered_end}
 use Rattle.developer.proofs.answer.answer_complete_lines.Goals as goal

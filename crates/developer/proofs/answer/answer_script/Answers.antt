@@ -1,4 +1,4 @@
-use Rattle.std.proofs.Common.{◌≡◌, sym, ◌∙◌}
+use Rattle.std.proofs.Common.{sym, ◌∙◌}
 use Rattle.dev_settings.specs.Lines.{lines_of}
 use Rattle.developer.specs.Replies.{answer_of}
 use Rattle.developer.specs.Transcript.{answers_of}

@@ -1,9 +1,9 @@
-use Rattle.std.proofs.Common.{◌≡◌, ℕ, ◌+◌, ◌-◌, ◌*◌, ◌<◌, ◌≤◌, List, [], ◌++◌, Ok, Err, refl, sym, ◌∙◌, ap, subst, arith}
+use Rattle.std.proofs.Common.{◌≡◌, ℕ, ◌+◌, ◌-◌, List, [], ◌++◌, Ok, Err, sym, ◌∙◌, ap, subst, arith}
 use Rattle.std.proofs.lemmas.Result.{err_from_is_err_and}
-use Rattle.plane_view.specs.Plane.{Plane, crop}
+use Rattle.plane_view.specs.Plane.{crop}
 use Rattle.raw_io.specs.Outside.{IsFrontOf}
 use Rattle.image_out.specs.Image.{pixels_of}
-use Rattle.developer.proofs.Images.{rows_of, rows_none, rows_more, rows_all, rows_front, row_written}
+use Rattle.developer.proofs.Images.{rows_of, rows_none, rows_all, rows_front, row_written}
 use Rattle.developer.proofs.Writing.{writes_nothing, writes_same, writes_then, writes_stops}
 use Rattle.developer.proofs.answer.write_rows.Goals as goal
 

@@ -1,4 +1,4 @@
-use Rattle.std.proofs.Common.{◌≡◌, ℕ, ◌+◌, ◌-◌, ◌*◌, length, sym, ◌∙◌, arith}
+use Rattle.std.proofs.Common.{◌≡◌, ℕ, ◌+◌, ◌-◌, ◌*◌, length, ◌∙◌, arith}
 use Rattle.developer.proofs.Samples.{raw_samples, written_whole}
 use Rattle.developer.proofs.develop.raw_plane.Goals as goal
 

@@ -1,6 +1,6 @@
-use Rattle.std.proofs.Common.{◌≡◌, ℕ, ◌^◌, ◌<◌, ◌≤◌, ◌⊎◌, inl, inr, List, [], length, map, Option, None, Some, Result, Ok, Err, refl, sym, ◌∙◌, ap, subst, arith}
+use Rattle.std.proofs.Common.{◌≡◌, ℕ, inl, List, [], map, None, Some, Err, refl, sym, ◌∙◌, ap, subst, arith}
 use Rattle.std.specs.Prelude.{IfSome, string_bytes}
-use Rattle.dng_tags.specs.Frame.{IsAccepted, frame_of}
+use Rattle.dng_tags.specs.Frame.{IsAccepted}
 use Rattle.dng_tags.specs.declared.frame.FrameFault.TheVariants.{TooLong}
 use Rattle.developer.specs.Words.{Options, options}
 use Rattle.developer.specs.Develop.{develop}

@@ -1,11 +1,10 @@
-use Rattle.std.proofs.Common.{◌≡◌, ℕ, ◌+◌, ◌<◌, ◌≤◌, ◌⊎◌, inl, inr, List, [], length, take, Option, Some, Ok, Err, refl, sym, ◌∙◌, ap, subst, arith}
+use Rattle.std.proofs.Common.{◌≡◌, ℕ, ◌+◌, ◌<◌, ◌≤◌, inr, List, [], length, take, Some, Err, refl, sym, ◌∙◌, ap, subst, arith}
 use Rattle.std.specs.Prelude.{IfSome}
 use Rattle.raw_io.specs.Outside.{Takes}
 use Rattle.dev_settings.specs.Lines.{all_lines, lines_of}
 use Rattle.developer.specs.Transcript.{answers_of, by_told_script, max_script}
-use Rattle.developer.specs.Run.{Call, Ends, IsCalled}
-use Rattle.developer.specs.declared.program.Status.{Status}
-use Rattle.developer.specs.declared.program.Status.TheVariants.{Done, ReadFault, ScriptTooLong}
+use Rattle.developer.specs.Run.{Call, Ends}
+use Rattle.developer.specs.declared.program.Status.TheVariants.{Done, ScriptTooLong}
 use Rattle.developer.proofs.Endings.{appends_nothing, called_accepted, called_done, called_long, ended, nothing_front}
 use Rattle.developer.proofs.program.run_script.Goals as goal
 

@@ -1,4 +1,4 @@
-use Rattle.std.proofs.Common.{◌≡◌, ℕ, ◌*◌, List, length, sym, ◌∙◌, ap, arith}
+use Rattle.std.proofs.Common.{◌≡◌, ℕ, List, length, ◌∙◌, ap, arith}
 use Rattle.plane_view.specs.Plane.{Plane}
 use Rattle.developer.proofs.Samples.{developed, written_whole}
 use Rattle.developer.proofs.develop.Developed.new.Goals as goal
