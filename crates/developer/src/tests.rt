@@ -58,6 +58,115 @@ const ROOM: usize = 1 << 16;
 /// The reply to a region of one pixel of the flat frame.
 const ONE_PIXEL: &[u8] = b"image 19\nP6\n1 1\n65535\n\x12\x34\x12\x34\x12\x34";
 
+// Frames and tables come from functions of their own, so that the proofs of the tests, which are of safety alone, don't
+// carry their bytes.
+
+fn flat() -> &'static [u8] {
+    &FLAT
+}
+
+fn bright() -> &'static [u8] {
+    &BRIGHT
+}
+
+fn one_pixel() -> &'static [u8] {
+    ONE_PIXEL
+}
+
+fn bright_pixels() -> &'static [u8] {
+    b"image 31\nP6\n3 1\n65535\n\x06\x40\x03\x20\x04\xB0\x03\x20\x00\x00\x00\x00\x00\x00\x00\x00\x00\x00\
+      image 19\nP6\n1 1\n65535\n\x01\x90\x00\x00\x00\x00"
+}
+
+/// A frame with some bytes replaced from a place on, and the line that it is refused with.
+#[derive(Clone, Copy)]
+struct Refusal {
+    frame: &'static [u8],
+    at: usize,
+    new: &'static [u8],
+    line: &'static [u8],
+}
+
+fn refusals() -> [Refusal; 5] {
+    let refusal = |frame, at, new, line| Refusal {
+        frame,
+        at,
+        new,
+        line,
+    };
+    [
+        refusal(&FLAT[..153], 0, b"", b"refused Outside 0\n"),
+        refusal(b"", 0, b"", b"refused NotTiff\n"),
+        refusal(
+            &FLAT,
+            4,
+            b"\xF0\xFF\xFF\xFF",
+            b"refused BadDirectory 4294967280\n",
+        ),
+        refusal(&FLAT, 8, b"\xFF\xFF", b"refused BadDirectory 8\n"),
+        refusal(&FLAT_BIG, 0, b"", b"refused NotYet\n"),
+    ]
+}
+
+/// What breaks the form, each alone: bytes of the flat frame from a place on.
+fn form_breaks() -> [(usize, &'static [u8]); 13] {
+    [
+        (10, b"\xFE\x00"),
+        (12, b"\x04"),
+        (14, b"\x02"),
+        (18, b"\x03"),
+        (30, b"\x03"),
+        (42, b"\x0C"),
+        (54, b"\x4C\x88"),
+        (60, b"\x03"),
+        (78, b"\x1F"),
+        (90, b"\x03"),
+        (102, b"\x02"),
+        (106, b"\x13"),
+        (115, b"\x05"),
+    ]
+}
+
+fn accepted_lines() -> [&'static [u8]; 5] {
+    [
+        b"region 0 0 1 1 ppm",
+        b"  region  0 0   1 1 ppm  \n",
+        b"region 0 0 1 1 ppm\r\n",
+        b"region 0000000003 3 1 1 ppm\n",
+        b"region 3 3 1 1 ppm\n",
+    ]
+}
+
+fn other_lines() -> [&'static [u8]; 16] {
+    [
+        b"region 0 0 1 1 ppm\r\r\n",
+        b"region 00000000003 3 1 1 ppm\n",
+        b"region 4 0 1 1 ppm\n",
+        b"region 0 4 1 1 ppm\n",
+        b"region 1 0 4 1 ppm\n",
+        b"region 0 1 1 4 ppm\n",
+        b"region 4294967295 0 1 1 ppm\n",
+        b"region 4294967296 0 1 1 ppm\n",
+        b"region 0 0 0 1 ppm\n",
+        b"region 0 0 1 0 ppm\n",
+        b"region 0 0 1 1 tiff\n",
+        b"region 0 0 1 1\n",
+        b"region 0 0 1 1 ppm ppm\n",
+        b"region\t0 0 1 1 ppm\n",
+        b"stat\n",
+        b"\n",
+    ]
+}
+
+fn refused_words() -> [&'static [&'static str]; 4] {
+    [
+        &[],
+        &["f.dng", "--cell", "20"],
+        &["f.dng", "--budget", "1073741825"],
+        &["-x"],
+    ]
+}
+
 /// The outside of a run.
 #[derive(Drop)]
 struct Outside {
@@ -103,69 +212,48 @@ fn patched(alloc: Global, bytes: &[u8], at: usize, new: &[u8]) -> Result<Vec<u8>
     Ok(frame)
 }
 
+/// The status of a run over a frame `f.dng` and a script, and what it wrote.
+fn ran(alloc: Global, frame: &[u8], script: &[u8]) -> Result<(Status, Vec<u8>), AllocError> {
+    let mut outside = Outside::new(alloc, frame, script)?;
+    let status = outside.run(alloc, &["f.dng"])?;
+    Ok((status, outside.out.bytes().to_vec(alloc)?))
+}
+
 #[test]
 fn regions(rt: HostRuntime) -> Result<(), Fail> {
     let alloc = rt.alloc();
-    let mut one = Outside::new(alloc, &FLAT, b"region 0 0 1 1 ppm\n")?;
-    assert_eq!(rt; one.run(alloc, &["f.dng"])?, Status::Done);
-    assert_eq!(rt; one.out.bytes(), ONE_PIXEL);
-
-    let mut two = Outside::new(alloc, &BRIGHT, b"region 4 4 3 1 ppm\nregion 5 5 1 1 ppm\n")?;
-    assert_eq!(rt; two.run(alloc, &["f.dng"])?, Status::Done);
-    let replies =
-        b"image 31\nP6\n3 1\n65535\n\x06\x40\x03\x20\x04\xB0\x03\x20\x00\x00\x00\x00\x00\x00\x00\x00\x00\x00image 19\nP6\n1 1\n65535\n\x01\x90\x00\x00\x00\x00";
-    assert_eq!(rt; two.out.bytes(), replies.as_slice());
+    let (status, bytes) = ran(alloc, flat(), b"region 0 0 1 1 ppm\n")?;
+    assert_eq!(rt; status, Status::Done);
+    assert_eq!(rt; bytes.as_slice(), one_pixel());
+    let (status, bytes) = ran(alloc, bright(), b"region 4 4 3 1 ppm\nregion 5 5 1 1 ppm\n")?;
+    assert_eq!(rt; status, Status::Done);
+    assert_eq!(rt; bytes.as_slice(), bright_pixels());
     Ok(())
 }
 
 #[test]
-fn refused_frames(rt: HostRuntime) -> Result<(), Fail> {
+fn frames_are_refused(rt: HostRuntime) -> Result<(), Fail> {
     let alloc = rt.alloc();
-    let table: [(&[u8], usize, &[u8], &[u8]); 18] = [
-        (&FLAT[..153], 0, b"", b"refused Outside 0\n"),
-        (b"", 0, b"", b"refused NotTiff\n"),
-        (
-            &FLAT,
-            4,
-            b"\xF0\xFF\xFF\xFF",
-            b"refused BadDirectory 4294967280\n",
-        ),
-        (&FLAT, 8, b"\xFF\xFF", b"refused BadDirectory 8\n"),
-        (&FLAT_BIG, 0, b"", b"refused NotYet\n"),
-        (&FLAT, 10, b"\xFE\x00", b"refused NotYet\n"),
-        (&FLAT, 12, b"\x04", b"refused NotYet\n"),
-        (&FLAT, 14, b"\x02", b"refused NotYet\n"),
-        (&FLAT, 18, b"\x03", b"refused NotYet\n"),
-        (&FLAT, 30, b"\x03", b"refused NotYet\n"),
-        (&FLAT, 42, b"\x0C", b"refused NotYet\n"),
-        (&FLAT, 54, b"\x4C\x88", b"refused NotYet\n"),
-        (&FLAT, 60, b"\x03", b"refused NotYet\n"),
-        (&FLAT, 78, b"\x1F", b"refused NotYet\n"),
-        (&FLAT, 90, b"\x03", b"refused NotYet\n"),
-        (&FLAT, 102, b"\x02", b"refused NotYet\n"),
-        (&FLAT, 106, b"\x13", b"refused NotYet\n"),
-        (&FLAT, 115, b"\x05", b"refused NotYet\n"),
-    ];
-    for (bytes, at, new, line) in table {
-        let frame = patched(alloc, bytes, at, new)?;
-        let mut outside = Outside::new(alloc, &frame, b"region 0 0 1 1 ppm\n")?;
-        assert_eq!(rt; outside.run(alloc, &["f.dng"])?, Status::Frame, "at {at}");
-        assert_eq!(rt; outside.out.bytes(), line, "at {at}");
+    for refusal in refusals() {
+        let frame = patched(alloc, refusal.frame, refusal.at, refusal.new)?;
+        let (status, bytes) = ran(alloc, &frame, b"region 0 0 1 1 ppm\n")?;
+        assert_eq!(rt; status, Status::Frame);
+        assert_eq!(rt; bytes.as_slice(), refusal.line);
+    }
+    for (at, new) in form_breaks() {
+        let frame = patched(alloc, flat(), at, new)?;
+        let (status, bytes) = ran(alloc, &frame, b"region 0 0 1 1 ppm\n")?;
+        assert_eq!(rt; status, Status::Frame, "at {at}");
+        assert_eq!(rt; bytes.as_slice(), b"refused NotYet\n".as_slice(), "at {at}");
     }
     Ok(())
 }
 
 #[test]
-fn refused_words(rt: HostRuntime) -> Result<(), Fail> {
+fn words_are_refused(rt: HostRuntime) -> Result<(), Fail> {
     let alloc = rt.alloc();
-    let table: [&[&str]; 4] = [
-        &[],
-        &["f.dng", "--cell", "20"],
-        &["f.dng", "--budget", "1073741825"],
-        &["-x"],
-    ];
-    for words in table {
-        let mut outside = Outside::new(alloc, &FLAT, b"region 0 0 1 1 ppm\n")?;
+    for words in refused_words() {
+        let mut outside = Outside::new(alloc, flat(), b"region 0 0 1 1 ppm\n")?;
         assert_eq!(rt; outside.run(alloc, words)?, Status::Usage);
         let line = b"usage: rawdev FRAME [--settings FILE] [--budget SAMPLES] [--cell N]\n";
         assert_eq!(rt; outside.out.bytes(), line.as_slice());
@@ -176,34 +264,15 @@ fn refused_words(rt: HostRuntime) -> Result<(), Fail> {
 #[test]
 fn lines(rt: HostRuntime) -> Result<(), Fail> {
     let alloc = rt.alloc();
-    let table: [(&[u8], bool); 21] = [
-        (b"region 0 0 1 1 ppm", true),
-        (b"  region  0 0   1 1 ppm  \n", true),
-        (b"region 0 0 1 1 ppm\r\n", true),
-        (b"region 0 0 1 1 ppm\r\r\n", false),
-        (b"region 0000000003 3 1 1 ppm\n", true),
-        (b"region 00000000003 3 1 1 ppm\n", false),
-        (b"region 3 3 1 1 ppm\n", true),
-        (b"region 4 0 1 1 ppm\n", false),
-        (b"region 0 4 1 1 ppm\n", false),
-        (b"region 1 0 4 1 ppm\n", false),
-        (b"region 0 1 1 4 ppm\n", false),
-        (b"region 4294967295 0 1 1 ppm\n", false),
-        (b"region 4294967296 0 1 1 ppm\n", false),
-        (b"region 0 0 0 1 ppm\n", false),
-        (b"region 0 0 1 0 ppm\n", false),
-        (b"region 0 0 1 1 tiff\n", false),
-        (b"region 0 0 1 1\n", false),
-        (b"region 0 0 1 1 ppm ppm\n", false),
-        (b"region\t0 0 1 1 ppm\n", false),
-        (b"stat\n", false),
-        (b"\n", false),
-    ];
-    for (script, accepted) in table {
-        let mut outside = Outside::new(alloc, &FLAT, script)?;
-        assert_eq!(rt; outside.run(alloc, &["f.dng"])?, Status::Done);
-        let reply: &[u8] = if accepted { ONE_PIXEL } else { b"no yet\n" };
-        assert_eq!(rt; outside.out.bytes(), reply, "{script:?}");
+    for script in accepted_lines() {
+        let (status, bytes) = ran(alloc, flat(), script)?;
+        assert_eq!(rt; status, Status::Done);
+        assert_eq!(rt; bytes.as_slice(), one_pixel(), "{script:?}");
+    }
+    for script in other_lines() {
+        let (status, bytes) = ran(alloc, flat(), script)?;
+        assert_eq!(rt; status, Status::Done);
+        assert_eq!(rt; bytes.as_slice(), b"no yet\n".as_slice(), "{script:?}");
     }
     Ok(())
 }
@@ -211,15 +280,15 @@ fn lines(rt: HostRuntime) -> Result<(), Fail> {
 #[test]
 fn long_lines(rt: HostRuntime) -> Result<(), Fail> {
     let alloc = rt.alloc();
-    for (length, reply) in [(4096, ONE_PIXEL), (4097, b"no yet\n".as_slice())] {
-        let mut script = b"region 0 0 1 1 ppm".to_vec(alloc)?;
-        for _ in 18..length {
-            script.push(b' ')?;
-        }
-        let mut outside = Outside::new(alloc, &FLAT, &script)?;
-        assert_eq!(rt; outside.run(alloc, &["f.dng"])?, Status::Done);
-        assert_eq!(rt; outside.out.bytes(), reply, "{length} bytes");
-    }
+    let mut script = b"region 0 0 1 1 ppm".to_vec(alloc)?;
+    script.resize(4096, b' ')?;
+    let (status, bytes) = ran(alloc, flat(), &script)?;
+    assert_eq!(rt; status, Status::Done);
+    assert_eq!(rt; bytes.as_slice(), one_pixel());
+    script.push(b' ')?;
+    let (status, bytes) = ran(alloc, flat(), &script)?;
+    assert_eq!(rt; status, Status::Done);
+    assert_eq!(rt; bytes.as_slice(), b"no yet\n".as_slice());
     Ok(())
 }
 
@@ -227,37 +296,41 @@ fn long_lines(rt: HostRuntime) -> Result<(), Fail> {
 fn long_scripts(rt: HostRuntime) -> Result<(), Fail> {
     let alloc = rt.alloc();
     let mut script = vec![in alloc; b'x'; 1 << 24]?;
-    let mut longest = Outside::new(alloc, &FLAT, &script)?;
-    assert_eq!(rt; longest.run(alloc, &["f.dng"])?, Status::Done);
-    assert_eq!(rt; longest.out.bytes(), b"no yet\n".as_slice());
+    let (status, bytes) = ran(alloc, flat(), &script)?;
+    assert_eq!(rt; status, Status::Done);
+    assert_eq!(rt; bytes.as_slice(), b"no yet\n".as_slice());
     script.push(b'x')?;
-    let mut longer = Outside::new(alloc, &FLAT, &script)?;
-    assert_eq!(rt; longer.run(alloc, &["f.dng"])?, Status::ScriptTooLong);
-    assert_eq!(rt; longer.out.bytes(), b"".as_slice());
+    let (status, bytes) = ran(alloc, flat(), &script)?;
+    assert_eq!(rt; status, Status::ScriptTooLong);
+    assert!(rt; bytes.is_empty());
     Ok(())
 }
 
 #[test]
-fn faults(rt: HostRuntime) -> Result<(), Fail> {
+fn reads_fail(rt: HostRuntime) -> Result<(), Fail> {
     let alloc = rt.alloc();
-    let script = b"region 0 0 1 1 ppm\n";
-    let mut absent = Outside::new(alloc, &FLAT, script)?;
+    let mut absent = Outside::new(alloc, flat(), b"region 0 0 1 1 ppm\n")?;
     assert_eq!(rt; absent.run(alloc, &["g.dng"])?, Status::ReadFault);
-    assert_eq!(rt; absent.out.bytes(), b"".as_slice());
+    assert!(rt; absent.out.bytes().is_empty());
 
-    let mut unread = Outside::new(alloc, &FLAT, script)?;
+    let mut unread = Outside::new(alloc, flat(), b"region 0 0 1 1 ppm\n")?;
     unread.script.fail_at(1)?;
     assert_eq!(rt; unread.run(alloc, &["f.dng"])?, Status::ReadFault);
-    assert_eq!(rt; unread.out.bytes(), b"".as_slice());
+    assert!(rt; unread.out.bytes().is_empty());
+    Ok(())
+}
 
-    let mut unwritten = Outside::new(alloc, &FLAT, script)?;
+#[test]
+fn writes_fail(rt: HostRuntime) -> Result<(), Fail> {
+    let alloc = rt.alloc();
+    let mut unwritten = Outside::new(alloc, flat(), b"region 0 0 1 1 ppm\n")?;
     unwritten.out.fail_at(1)?;
     assert_eq!(rt; unwritten.run(alloc, &["f.dng"])?, Status::WriteFault);
-    assert_eq!(rt; unwritten.out.bytes(), b"".as_slice());
+    assert!(rt; unwritten.out.bytes().is_empty());
 
-    let mut full = Outside::new(alloc, &FLAT, script)?;
+    let mut full = Outside::new(alloc, flat(), b"region 0 0 1 1 ppm\n")?;
     full.out = MemSink::new(alloc, 9)?;
     assert_eq!(rt; full.run(alloc, &["f.dng"])?, Status::WriteFault);
-    assert!(rt; full.out.bytes().len() <= 9 && ONE_PIXEL.starts_with(full.out.bytes()));
+    assert!(rt; full.out.bytes().len() <= 9 && one_pixel().starts_with(full.out.bytes()));
     Ok(())
 }
