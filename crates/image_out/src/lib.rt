@@ -4,6 +4,7 @@
 ghost use Rattle.std.specs.Prelude.{◌≡◌, ◌+◌, ◌*◌, ◌≤◌, ◌++◌, length, take, drop};
 ghost use Rattle.image_out.specs.Image.{ppm_head_of, reply_head_of, pixels_of};
 
+use byteorder::{BigEndian, ByteOrder};
 use dev_settings::Format;
 use itoa::Buffer;
 
@@ -53,18 +54,7 @@ pub fn pixel_bytes(samples: &[u16], format: Format, out: &mut [u8])
     ensures { out.new ≡ pixels_of format samples.now }
 {
     match format {
-        Format::Ppm => big_endian(samples, out),
-    }
-}
-
-/// Writes two bytes to a sample, the greater first.
-fn big_endian(samples: &[u16], out: &mut [u8])
-    requires { length out.old ≡ 2 * length samples.now }
-    ensures { out.new ≡ pixels_of Format.Ppm samples.now }
-{
-    for (i, sample) in samples.iter().enumerate() {
-        out[2 * i] = (*sample >> 8) as u8;
-        out[2 * i + 1] = (*sample & 0xff) as u8;
+        Format::Ppm => BigEndian::write_u16_into(samples, out),
     }
 }
 
