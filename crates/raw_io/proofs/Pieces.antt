@@ -5,8 +5,8 @@ use Rattle.std.proofs.Math.Seq.{take-add}
 use Rattle.std.proofs.lemmas.List.{drop-drop, take_all, take_at, nil_from_length}
 use Rattle.raw_io.specs.Outside.{Rises, Takes, ReadsAt, Appends}
 
-pub rises_from : (a b c : ℕ) → a ≤ b → Rises b c → Rises a c
-rises_from a b c h r = elim r [ inl rose ↦ inl (omega arith) | inr top ↦ inr top ]
+pub rises_since : (a b c : ℕ) → b ≡ a → Rises b c → Rises a c
+rises_since a b c same r = let P : ℕ → Type 0 = λ n. Rises n c in subst P same r
 
 -- nothing was taken
 pub takes_none : (a : Option (List ℕ)) → Takes a a []
@@ -32,9 +32,6 @@ takes_still (Some l) b c xs first then =
 -- the same bytes, named otherwise
 pub takes_is : (a b : Option (List ℕ)) (xs ys : List ℕ) → xs ≡ ys → Takes a b xs → Takes a b ys
 takes_is a b xs ys same taken = let P : List ℕ → Type 0 = λ l. Takes a b l in subst P same taken
-
-pub takes_left : (a b c : Option (List ℕ)) (xs : List ℕ) → b ≡ c → Takes a b xs → Takes a c xs
-takes_left a b c xs same taken = let P : Option (List ℕ) → Type 0 = λ o. Takes a o xs in subst P same taken
 
 -- nothing was left to take
 takes_rest : (l : List ℕ) (c : Option (List ℕ)) → length l ≡ 0 → Takes (Some l) c [] → c ≡ Some []

@@ -5,6 +5,10 @@ use Rattle.std.specs.Prelude.{◌≡◌, ℕ, ◌-◌, ◌^◌, ◌<◌, ◌≤�
 abbrev pub Rises : ℕ → ℕ → Type 0
 Rises before now = (before < now) ⊎ (now ≡ 2 ^ 64 - 1)
 
+-- No count of a name changed.
+abbrev pub SameCounts : (List ℕ → ℕ) → (List ℕ → ℕ) → Type 0
+SameCounts before now = (name : List ℕ) → now name ≡ before name
+
 -- The bytes begin with these.
 abbrev pub IsFrontOf : List ℕ → List ℕ → Type 0
 IsFrontOf front bytes = (rest : List ℕ) × (bytes ≡ front ++ rest)

@@ -1,7 +1,7 @@
 // What files, sources and sinks are, by what their calls promise.
 
-ghost use Rattle.std.specs.Prelude.{◌≡◌, ℕ, ◌+◌, ◌<◌, ◌≤◌, List, length, take, Option, None, Some, IfOk, IsErr, OnErr, IfSome};
-ghost use Rattle.raw_io.specs.Outside.{Rises, ReadsAt, Takes, Appends};
+ghost use Rattle.std.specs.Prelude.{◌≡◌, ℕ, ◌+◌, ◌<◌, ◌≤◌, List, [], length, take, Option, None, Some, IfOk, IsErr, OnOk, OnErr, IfSome};
+ghost use Rattle.raw_io.specs.Outside.{Rises, SameCounts, ReadsAt, Takes, Appends};
 
 /// The one answer of an outside call that failed.
 #[derive(Clone, Copy, Debug, PartialEq, Eq)]
@@ -12,7 +12,7 @@ pub trait Files {
     /// The contents under a name, where they are told.
     ghost told: { Self → List ℕ → Option (List ℕ) };
 
-    /// How often a read of a name has failed. Several names may share one count.
+    /// How often a read of a name has failed. Several names may share one count. A read that went well changes no count.
     ghost faults: { Self → List ℕ → ℕ };
 
     /// Reads from an offset into the front of `into`, and answers how many bytes; 0 for a slice that isn't empty only
@@ -20,6 +20,7 @@ pub trait Files {
     fn read(&mut self, name: &str, at: u64, into: &mut [u8]) -> Result<usize, Failed>
         ensures contents { (other : List ℕ) → told self.new other ≡ told self.old other }
         ensures counts { (other : List ℕ) → faults self.old other ≤ faults self.new other }
+        ensures no_fault { OnOk result (SameCounts (faults self.old) (faults self.new)) }
         ensures within { IfOk result (λ n. n ≤ length into.old) }
         ensures bytes { IfOk result (λ n. IfSome (told self.old name.now) (λ bytes. ReadsAt bytes at into.new n)) }
         ensures failed { OnErr result (Rises (faults self.old name.now) (faults self.new name.now)) };
@@ -30,32 +31,34 @@ pub trait Source {
     /// The bytes that are left, where they are told.
     ghost left: { Self → Option (List ℕ) };
 
-    /// How often a read has failed.
+    /// How often a read has failed. A read that went well leaves it.
     ghost faults: { Self → ℕ };
 
     /// Takes bytes from the front into the front of `into`, and answers how many; 0 for a slice that isn't empty only
     /// where none are left. A read that failed took nothing.
     fn read(&mut self, into: &mut [u8]) -> Result<usize, Failed>
         ensures counts { faults self.old ≤ faults self.new }
+        ensures no_fault { OnOk result (faults self.new ≡ faults self.old) }
         ensures within { IfOk result (λ n. n ≤ length into.old) }
         ensures taken { IfOk result (λ n. Takes (left self.old) (left self.new) (take n into.new)) }
         ensures end { IfOk result (λ n. n ≡ 0 → 0 < length into.old → IfSome (left self.old) (λ bytes. length bytes ≡ 0)) }
-        ensures kept { OnErr result (left self.new ≡ left self.old) }
+        ensures kept { OnErr result (Takes (left self.old) (left self.new) []) }
         ensures failed { OnErr result (Rises (faults self.old) (faults self.new)) };
 }
 
 /// What bytes are written to.
 pub trait Sink {
-    /// The sink stands for this list of bytes. It may stand for several, and so tell nothing.
+    /// The sink stands for this list of bytes. It may stand for none or for several, and so tell nothing.
     ghost stands_for: { Self → List ℕ → Type 0 };
 
-    /// How often a write has failed.
+    /// How often a write has failed. A write that went well leaves it.
     ghost faults: { Self → ℕ };
 
     /// Appends bytes from the front of `from`, and answers how many; not 0 for a slice that isn't empty. A write that
     /// failed appended nothing.
     fn write(&mut self, from: &[u8]) -> Result<usize, Failed>
         ensures counts { faults self.old ≤ faults self.new }
+        ensures no_fault { OnOk result (faults self.new ≡ faults self.old) }
         ensures within { IfOk result (λ n. n ≤ length from.now) }
         ensures progress { IfOk result (λ n. 0 < length from.now → 0 < n) }
         ensures appended { IfOk result (λ n. Appends stands_for self.old self.new (take n from.now)) }

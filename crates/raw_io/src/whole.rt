@@ -1,7 +1,7 @@
 // Whole reads and writes, over many calls of the outside.
 
 ghost use Rattle.std.specs.Prelude.{◌≡◌, ℕ, ◌+◌, ◌^◌, ◌<◌, ◌≤◌, List, [], length, take, Some, IfOk, IfErr, OnOk, OnErr, IfSome, IsErrOf, vec_len};
-ghost use Rattle.raw_io.specs.Outside.{Rises, Takes, TakesAtMost, Appends};
+ghost use Rattle.raw_io.specs.Outside.{Rises, SameCounts, Takes, TakesAtMost, Appends};
 
 use crate::{Failed, Files, Sink, Source};
 use std::alloc::{AllocError, Global};
@@ -57,7 +57,7 @@ impl WriteFault {
     }
 }
 
-/// The whole contents under a name, of at most `limit` bytes.
+/// The whole contents under a name, of at most `limit` bytes. A read has failed only at the answer `Failed`.
 pub fn read_all<F: Files>(
     alloc: Global,
     files: &mut F,
@@ -66,10 +66,13 @@ pub fn read_all<F: Files>(
 ) -> Result<Vec<u8>, ReadFault>
     ensures contents { (other : List ℕ) → F.told files.new other ≡ F.told files.old other }
     ensures counts { (other : List ℕ) → F.faults files.old other ≤ F.faults files.new other }
+    ensures no_fault { OnOk result (SameCounts (F.faults files.old) (F.faults files.new)) }
     ensures within { IfOk result (λ bytes. vec_len bytes ≤ limit) }
     ensures whole { IfOk result (λ bytes. IfSome (F.told files.old name.now) (λ contents. bytes.items ≡ contents)) }
     ensures too_long { IsErrOf result ReadFault.TooLong
         → IfSome (F.told files.old name.now) (λ contents. limit < length contents) }
+    ensures too_long_no_fault { IsErrOf result ReadFault.TooLong → SameCounts (F.faults files.old) (F.faults files.new) }
+    ensures memory_no_fault { IsErrOf result ReadFault.Memory → SameCounts (F.faults files.old) (F.faults files.new) }
     ensures failed { IsErrOf result ReadFault.Failed
         → Rises (F.faults files.old name.now) (F.faults files.new name.now) }
 {
@@ -79,7 +82,8 @@ pub fn read_all<F: Files>(
     Ok(whole)
 }
 
-/// Takes the bytes of a source into an empty vector, until its end, a failed read or one byte past the limit.
+/// Takes the bytes of a source into an empty vector, until its end, a failed read or one byte past the limit. A read
+/// has failed only at the answer `Failed`.
 pub fn read_source<C: Source>(
     source: &mut C,
     into: &mut Vec<u8>,
@@ -88,11 +92,14 @@ pub fn read_source<C: Source>(
     requires empty { into.old.items ≡ [] }
     requires small { limit < 2 ^ 60 }
     ensures counts { C.faults source.old ≤ C.faults source.new }
+    ensures no_fault { OnOk result (C.faults source.new ≡ C.faults source.old) }
     ensures taken { OnOk result (Takes (C.left source.old) (C.left source.new) into.new.items) }
     ensures within { OnOk result (vec_len into.new ≤ limit) }
     ensures end { OnOk result (IfSome (C.left source.old) (λ _. C.left source.new ≡ Some [])) }
     ensures too_long { IsErrOf result ReadFault.TooLong
         → Takes (C.left source.old) (C.left source.new) into.new.items × (vec_len into.new ≡ limit + 1) }
+    ensures too_long_no_fault { IsErrOf result ReadFault.TooLong → C.faults source.new ≡ C.faults source.old }
+    ensures memory_no_fault { IsErrOf result ReadFault.Memory → C.faults source.new ≡ C.faults source.old }
     ensures failed { IsErrOf result ReadFault.Failed
         → Takes (C.left source.old) (C.left source.new) into.new.items × (vec_len into.new ≤ limit) }
     ensures rises { IsErrOf result ReadFault.Failed → Rises (C.faults source.old) (C.faults source.new) }
@@ -114,10 +121,13 @@ fn read_into<F: Files>(
     requires empty { whole.old.items ≡ [] }
     ensures contents { (other : List ℕ) → F.told files.new other ≡ F.told files.old other }
     ensures counts { (other : List ℕ) → F.faults files.old other ≤ F.faults files.new other }
+    ensures no_fault { OnOk result (SameCounts (F.faults files.old) (F.faults files.new)) }
     ensures within { OnOk result (vec_len whole.new ≤ limit) }
     ensures whole { OnOk result (IfSome (F.told files.old name.now) (λ contents. whole.new.items ≡ contents)) }
     ensures too_long { IsErrOf result ReadFault.TooLong
         → IfSome (F.told files.old name.now) (λ contents. limit < length contents) }
+    ensures too_long_no_fault { IsErrOf result ReadFault.TooLong → SameCounts (F.faults files.old) (F.faults files.new) }
+    ensures memory_no_fault { IsErrOf result ReadFault.Memory → SameCounts (F.faults files.old) (F.faults files.new) }
     ensures failed { IsErrOf result ReadFault.Failed
         → Rises (F.faults files.old name.now) (F.faults files.new name.now) }
 {
@@ -147,11 +157,14 @@ fn take_into<C: Source>(
     requires empty { into.old.items ≡ [] }
     requires small { limit < 2 ^ 60 }
     ensures counts { C.faults source.old ≤ C.faults source.new }
+    ensures no_fault { OnOk result (C.faults source.new ≡ C.faults source.old) }
     ensures taken { OnOk result (Takes (C.left source.old) (C.left source.new) into.new.items) }
     ensures within { OnOk result (vec_len into.new ≤ limit) }
     ensures end { OnOk result (IfSome (C.left source.old) (λ _. C.left source.new ≡ Some [])) }
     ensures too_long { IsErrOf result ReadFault.TooLong
         → Takes (C.left source.old) (C.left source.new) into.new.items × (vec_len into.new ≡ limit + 1) }
+    ensures too_long_no_fault { IsErrOf result ReadFault.TooLong → C.faults source.new ≡ C.faults source.old }
+    ensures memory_no_fault { IsErrOf result ReadFault.Memory → C.faults source.new ≡ C.faults source.old }
     ensures failed { IsErrOf result ReadFault.Failed
         → Takes (C.left source.old) (C.left source.new) into.new.items × (vec_len into.new ≤ limit) }
     ensures rises { IsErrOf result ReadFault.Failed → Rises (C.faults source.old) (C.faults source.new) }
@@ -194,6 +207,7 @@ fn piece_len(room: u64, most: usize) -> usize
 /// Writes all of the bytes.
 pub fn write_all<O: Sink>(sink: &mut O, bytes: &[u8]) -> Result<(), WriteFault>
     ensures counts { O.faults sink.old ≤ O.faults sink.new }
+    ensures no_fault { OnOk result (O.faults sink.new ≡ O.faults sink.old) }
     ensures appended { OnOk result (Appends O.stands_for sink.old sink.new bytes.now) }
     ensures within { IfErr result (λ fault. fault.written < length bytes.now) }
     ensures written { IfErr result (λ fault. Appends O.stands_for sink.old sink.new (take fault.written bytes.now)) }

@@ -1,5 +1,5 @@
 use Rattle.std.proofs.Common.{◌≡◌, take, length, refl, ◌∙◌, ap, arith, length-take, vec_len}
-use Rattle.raw_io.proofs.Pieces.{rises_from, front_none, front_more, front_all, reads_past, reads_told}
+use Rattle.raw_io.proofs.Pieces.{rises_since, front_none, front_more, front_all, reads_past, reads_told}
 use Rattle.raw_io.proofs.whole.read_into.Goals as goal
 
 pub loop-count-init : goal.loop-count-init
@@ -8,7 +8,7 @@ loop-count-init g c =
     record {
       within = omega arith;
       contents = λ other. refl;
-      counts = λ other. omega arith;
+      no_fault = λ other. refl;
       front = front_none _ _ _ none c.requires.empty;
     }
 
@@ -16,10 +16,10 @@ pub returns-in_err-count-clause-contents : goal.returns-in_err-count-clause-cont
 returns-in_err-count-clause-contents g c = λ other. c.read.ensures.contents other ∙ c.loop-count.invariant.contents other
 
 pub returns-in_err-count-clause-counts : goal.returns-in_err-count-clause-counts
-returns-in_err-count-clause-counts g c = λ other. omega (arith, c.read.ensures.counts other, c.loop-count.invariant.counts other)
+returns-in_err-count-clause-counts g c = λ other. omega (arith, c.read.ensures.counts other, c.loop-count.invariant.no_fault other)
 
 pub returns-in_err-count-clause-failed : goal.returns-in_err-count-clause-failed
-returns-in_err-count-clause-failed g c = λ _. rises_from _ _ _ (c.loop-count.invariant.counts c.args.name.now) c.in_err-count.ensures.failed
+returns-in_err-count-clause-failed g c = λ _. rises_since _ _ _ (c.loop-count.invariant.no_fault c.args.name.now) c.in_err-count.ensures.failed
 
 pub returns-then-count-eq0-clause-contents : goal.returns-then-count-eq0-clause-contents
 returns-then-count-eq0-clause-contents g c = λ other. c.read.ensures.contents other ∙ c.loop-count.invariant.contents other
@@ -44,7 +44,7 @@ loop-count-preserved g c =
     record {
       within = omega (arith, pushed, c.if-count-room.false, c.in_ok-extend_from_slice.ensures.len, c.len.ensures);
       contents = λ other. c.read.ensures.contents other ∙ c.loop-count.invariant.contents other;
-      counts = λ other. omega (arith, c.read.ensures.counts other, c.loop-count.invariant.counts other);
+      no_fault = λ other. c.in_ok-count.ensures.no_fault other ∙ c.loop-count.invariant.no_fault other;
       front = front_more _ _ _ _ _ _ c.in_ok-count.count c.in_ok-extend_from_slice.ensures.items (omega (arith, pushed, c.in_ok-extend_from_slice.ensures.len)) c.loop-count.invariant.front read;
     }
 
@@ -52,4 +52,13 @@ pub returns-in_err-extend_from_slice-clause-contents : goal.returns-in_err-exten
 returns-in_err-extend_from_slice-clause-contents g c = λ other. c.read.ensures.contents other ∙ c.loop-count.invariant.contents other
 
 pub returns-in_err-extend_from_slice-clause-counts : goal.returns-in_err-extend_from_slice-clause-counts
-returns-in_err-extend_from_slice-clause-counts g c = λ other. omega (arith, c.read.ensures.counts other, c.loop-count.invariant.counts other)
+returns-in_err-extend_from_slice-clause-counts g c = λ other. omega (arith, c.read.ensures.counts other, c.loop-count.invariant.no_fault other)
+
+pub returns-then-count-eq0-clause-no_fault : goal.returns-then-count-eq0-clause-no_fault
+returns-then-count-eq0-clause-no_fault g c = λ other. c.in_ok-count.ensures.no_fault other ∙ c.loop-count.invariant.no_fault other
+
+pub returns-then-count-room-clause-too_long_no_fault : goal.returns-then-count-room-clause-too_long_no_fault
+returns-then-count-room-clause-too_long_no_fault g c = λ _ other. c.in_ok-count.ensures.no_fault other ∙ c.loop-count.invariant.no_fault other
+
+pub returns-in_err-extend_from_slice-clause-memory_no_fault : goal.returns-in_err-extend_from_slice-clause-memory_no_fault
+returns-in_err-extend_from_slice-clause-memory_no_fault g c = λ _ other. c.in_ok-count.ensures.no_fault other ∙ c.loop-count.invariant.no_fault other

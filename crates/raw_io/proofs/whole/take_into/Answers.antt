@@ -1,20 +1,20 @@
-use Rattle.std.proofs.Common.{◌≡◌, ℕ, ◌+◌, ◌<◌, ◌≤◌, [], ◌++◌, take, length, sym, ap, arith, length-take, length-append, vec_len}
-use Rattle.raw_io.proofs.Pieces.{rises_from, takes_none, takes_more, takes_still, takes_all, takes_is, takes_left}
+use Rattle.std.proofs.Common.{◌≡◌, ℕ, ◌+◌, ◌<◌, ◌≤◌, [], ◌++◌, take, length, refl, sym, ◌∙◌, ap, arith, length-take, length-append, vec_len}
+use Rattle.raw_io.proofs.Pieces.{rises_since, takes_none, takes_more, takes_still, takes_all, takes_is}
 use Rattle.raw_io.proofs.whole.take_into.Goals as goal
 
 pub loop-count-init : goal.loop-count-init
 loop-count-init g c = record {
   within = omega (arith, c.args.into.now.ok.0, ap length c.requires.empty);
-  counts = omega arith;
+  no_fault = refl;
   taken = takes_is _ _ _ _ (sym c.requires.empty) (takes_none (g.C.Source.left c.args.source.now));
 }
 
 pub returns-in_err-count-clause-rises : goal.returns-in_err-count-clause-rises
-returns-in_err-count-clause-rises g c = λ _. rises_from _ _ _ c.loop-count.invariant.counts c.in_err-count.ensures.failed
+returns-in_err-count-clause-rises g c = λ _. rises_since _ _ _ c.loop-count.invariant.no_fault c.in_err-count.ensures.failed
 
 pub returns-in_err-count-clause-failed : goal.returns-in_err-count-clause-failed
 returns-in_err-count-clause-failed g c = λ _.
-    (takes_left _ _ _ _ (sym c.in_err-count.ensures.kept) c.loop-count.invariant.taken, c.loop-count.invariant.within)
+    (takes_still _ _ _ _ c.loop-count.invariant.taken c.in_err-count.ensures.kept, c.loop-count.invariant.within)
 
 pub returns-then-count-eq0-clause-taken : goal.returns-then-count-eq0-clause-taken
 returns-then-count-eq0-clause-taken g c =
@@ -48,6 +48,15 @@ loop-count-preserved g c =
     let taken = takes_more _ _ _ _ _ c.loop-count.invariant.taken c.in_ok-count.ensures.taken in
     record {
       within = omega (arith, c.len-in-loop-count.ensures, c.if-len-limit.false);
-      counts = omega (arith, c.read.ensures.counts, c.loop-count.invariant.counts);
+      no_fault = c.in_ok-count.ensures.no_fault ∙ c.loop-count.invariant.no_fault;
       taken = takes_is _ _ _ _ (sym c.in_ok-extend_from_slice.ensures.items) taken;
     }
+
+pub returns-then-count-eq0-clause-no_fault : goal.returns-then-count-eq0-clause-no_fault
+returns-then-count-eq0-clause-no_fault g c = c.in_ok-count.ensures.no_fault ∙ c.loop-count.invariant.no_fault
+
+pub returns-then-len-limit-clause-too_long_no_fault : goal.returns-then-len-limit-clause-too_long_no_fault
+returns-then-len-limit-clause-too_long_no_fault g c = λ _. c.in_ok-count.ensures.no_fault ∙ c.loop-count.invariant.no_fault
+
+pub returns-in_err-extend_from_slice-clause-memory_no_fault : goal.returns-in_err-extend_from_slice-clause-memory_no_fault
+returns-in_err-extend_from_slice-clause-memory_no_fault g c = λ _. c.in_ok-count.ensures.no_fault ∙ c.loop-count.invariant.no_fault
