@@ -1,12 +1,41 @@
 //! Images as bytes, and the line that goes before the bytes of an image.
 #![tactic(auto)]
 
-ghost use Rattle.std.specs.Prelude.{◌≡◌, ◌+◌, ◌*◌, ◌≤◌, ◌++◌, length, take, drop};
+mod piece;
+
+ghost use Rattle.std.specs.Prelude.{◌≡◌, ◌*◌, ◌≤◌, ◌++◌, length, take, drop};
 ghost use Rattle.image_out.specs.Image.{ppm_head_of, reply_head_of, pixels_of};
 
 use byteorder::{BigEndian, ByteOrder};
 use dev_settings::Format;
-use itoa::Buffer;
+pub use piece::Piece;
+use text_line::Line;
+
+/// The head of a binary portable pixmap of `w` columns and `h` rows.
+#[tactic(auto, using(text_line::specs::Digits::decimal_within_ten))]
+pub fn pixmap_head(w: u32, h: u32) -> Line
+    ensures head { result ≡ ppm_head_of w h }
+    ensures within { length result ≤ 32 }
+{
+    let mut head = Line::new();
+    head.push(b"P6\n");
+    head.push_number(u64::from(w));
+    head.push_field(u64::from(h));
+    head.push(b"\n65535\n");
+    head
+}
+
+/// The line before an image of `n` bytes.
+pub fn reply_line(n: u64) -> Line
+    ensures line { result ≡ reply_head_of n }
+    ensures within { length result ≤ 32 }
+{
+    let mut line = Line::new();
+    line.push(b"image");
+    line.push_field(n);
+    line.end();
+    line
+}
 
 /// Writes the head of a binary portable pixmap of `w` columns and `h` rows, and gives its length.
 pub fn ppm_head(w: u32, h: u32, out: &mut [u8; 32]) -> usize
@@ -15,12 +44,7 @@ pub fn ppm_head(w: u32, h: u32, out: &mut [u8; 32]) -> usize
     ensures head { take result out.new ≡ ppm_head_of w h }
     ensures rest { drop result out.new ≡ drop result out.old }
 {
-    let mut digits = Buffer::new();
-    let at = put(b"P6\n", 0, out);
-    let at = put(digits.format(w).as_bytes(), at, out);
-    let at = put(b" ", at, out);
-    let at = put(digits.format(h).as_bytes(), at, out);
-    put(b"\n65535\n", at, out)
+    put(&pixmap_head(w, h), out)
 }
 
 /// Writes the line before an image of `n` bytes, and gives its length.
@@ -30,22 +54,19 @@ pub fn reply_head(n: u64, out: &mut [u8; 32]) -> usize
     ensures head { take result out.new ≡ reply_head_of n }
     ensures rest { drop result out.new ≡ drop result out.old }
 {
-    let mut digits = Buffer::new();
-    let at = put(b"image ", 0, out);
-    let at = put(digits.format(n).as_bytes(), at, out);
-    put(b"\n", at, out)
+    put(&reply_line(n), out)
 }
 
-/// Writes the text into the array from a place on, and gives the place after it.
-fn put(text: &[u8], at: usize, out: &mut [u8; 32]) -> usize
-    requires { at + length text.now ≤ 32 }
-    ensures end { result ≡ at + length text.now }
-    ensures front { take result out.new ≡ take at out.old ++ text.now }
-    ensures back { drop result out.new ≡ drop result out.old }
+/// Writes a line to the front of the array, and gives its length.
+fn put(line: &Line, out: &mut [u8; 32]) -> usize
+    requires { length line.now ≤ 32 }
+    ensures used { result ≡ length line.now }
+    ensures front { take result out.new ≡ line.now }
+    ensures rest { drop result out.new ≡ drop result out.old }
 {
-    let end = at + text.len();
-    out[at..end].copy_from_slice(text);
-    end
+    let bytes = line.as_bytes();
+    out[..bytes.len()].copy_from_slice(bytes);
+    bytes.len()
 }
 
 /// Writes the bytes of the samples. `out` is twice as long as `samples`.
