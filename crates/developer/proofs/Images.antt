@@ -1,6 +1,7 @@
 -- The bytes of an image, row by row.
-use Rattle.std.proofs.Common.{◌≡◌, ℕ, ◌+◌, ◌*◌, ◌-◌, ◌<◌, ◌≤◌, List, [], ◌++◌, length, take, drop, sym, ◌∙◌, ap, arith}
+use Rattle.std.proofs.Common.{◌≡◌, ℕ, ◌+◌, ◌*◌, ◌-◌, ◌<◌, ◌≤◌, List, [], ◌++◌, length, take, drop, sym, ◌∙◌, ap, subst, append_assoc, length-append, arith}
 use Rattle.std.proofs.lemmas.List.{take-append-drop}
+use Rattle.std.proofs.Math.Nat.{mul-le-mul_right}
 use Rattle.plane_view.specs.Plane.{Plane, IsWhole, crop}
 use Rattle.plane_view.specs.Rectangles.{LiesIn, rect_of}
 use Rattle.plane_view.specs.declared.Rect.{Rect}
@@ -8,9 +9,10 @@ use Rattle.plane_view.proofs.Crops.{crop_all, crop_more, crop_none, length-crop}
 use Rattle.dev_settings.specs.declared.command.Format.{Format}
 use Rattle.dev_settings.specs.declared.command.Format.TheVariants.{Ppm}
 use Rattle.image_out.specs.Image.{pixels_of, ppm_head_of, reply_head_of}
-use Rattle.image_out.specs.ImageLaws.{length-image_of, pixels_of-append}
+use Rattle.image_out.specs.ImageLaws.{length-image_of, length-pixels_of, pixels_of-append}
 use Rattle.raw_io.specs.Outside.{IsFrontOf}
-use Rattle.developer.specs.Replies.{image, image_reply}
+use Rattle.developer.specs.Develop.{IsDeveloped, IsWithin}
+use Rattle.developer.specs.Replies.{image, image_reply, max_answer}
 
 -- the bytes of the first k rows of a crop
 pub rows_of : Format → Plane → Rect → ℕ → List ℕ
@@ -43,37 +45,63 @@ rows_front format P rect k = (
   ap (pixels_of format) (sym (take-append-drop (k * ((rect.right - rect.left) * P.planes)) (crop P rect).samples)) ∙ pixels_of-append format _ _,
 )
 
--- the rows up to a row and with it, whose bytes are in the buffer
-pub row_written : (format : Format) (P : Plane) (rect : Rect) (row : ℕ) (samples buffer : List ℕ) → IsWhole P → P.planes ≡ 3
-    → (rect.top ≤ rect.bottom) × (rect.bottom ≤ P.rows) → (rect.left ≤ rect.right) × (rect.right ≤ P.cols) → rect.top ≤ row → row < rect.bottom
-    → samples ≡ take ((rect.right - rect.left) * 3) (drop ((row * P.cols + rect.left) * 3) P.samples) → buffer ≡ pixels_of format samples
-    → rows_of format P rect (row + 1 - rect.top) ≡ rows_of format P rect (row - rect.top) ++ buffer
-row_written format P rect row samples buffer whole planes down across after before is-samples is-buffer =
-    let lies : LiesIn rect (rect_of P) = record { top = omega arith; rows = down.0; bottom = down.1; left = omega arith; cols = across.0; right = across.1 } in
+-- the rows up to a row and with it
+pub row_more : (format : Format) (P : Plane) (rect : Rect) (row : ℕ) (samples : List ℕ) → IsDeveloped P → IsWithin rect P → rect.top ≤ row → row < rect.bottom
+    → samples ≡ take ((rect.right - rect.left) * 3) (drop ((row * P.cols + rect.left) * 3) P.samples)
+    → rows_of format P rect (row + 1 - rect.top) ≡ rows_of format P rect (row - rect.top) ++ pixels_of format samples
+row_more format P rect row samples developed within after before is-samples =
+    let lies : LiesIn rect (rect_of P) = record { top = omega arith; rows = within.rows; bottom = within.bottom; left = omega arith; cols = within.cols; right = within.right } in
     let next : row + 1 - rect.top ≡ row - rect.top + 1 = omega arith in
     let here : rect.top + (row - rect.top) ≡ row = omega arith in
     ap (rows_of format P rect) next
-    ∙ (rows_more format P rect (row - rect.top) row whole lies here before
+    ∙ (rows_more format P rect (row - rect.top) row developed.whole lies here before
     ∙ ap (λ (bytes : List ℕ). rows_of format P rect (row - rect.top) ++ bytes)
-    (ap (λ (n : ℕ). pixels_of format (take ((rect.right - rect.left) * n) (drop ((row * P.cols + rect.left) * n) P.samples))) planes
-    ∙ sym (is-buffer ∙ ap (pixels_of format) is-samples)))
+    (ap (λ (n : ℕ). pixels_of format (take ((rect.right - rect.left) * n) (drop ((row * P.cols + rect.left) * n) P.samples))) developed.planes
+    ∙ ap (pixels_of format) (sym is-samples)))
+
+-- how many samples a part of a developed plane has
+length-part : (P : Plane) (rect : Rect) → IsDeveloped P → length (crop P rect).samples ≡ (rect.bottom - rect.top) * (rect.right - rect.left) * 3
+length-part P rect developed = length-crop P rect ∙ ap (λ (k : ℕ). (rect.bottom - rect.top) * (rect.right - rect.left) * k) developed.planes
+
+-- the most samples of a part
+few_samples : (h w : ℕ) → h ≤ 8192 → w ≤ 8192 → h * w ≤ 67108864
+few_samples h w rows cols =
+    let first : h * w ≤ 8192 * w = mul-le-mul_right w rows in
+    omega arith
+
+-- the most bytes of a part
+pub few_bytes : (format : Format) (P : Plane) (rect : Rect) → IsDeveloped P → IsWithin rect P → length (pixels_of format (crop P rect).samples) ≤ 402653184
+few_bytes format P rect developed within =
+    omega (
+      arith,
+      length-pixels_of format (crop P rect).samples,
+      length-part P rect developed,
+      few_samples (rect.bottom - rect.top) (rect.right - rect.left) (let h : rect.bottom - rect.top ≤ 8192 = omega (arith, within.bottom, developed.rows) in h) (let w : rect.right - rect.left ≤ 8192 = omega (arith, within.right, developed.cols) in w),
+    )
 
 -- the length of a pixmap
-length-pixmap : (P : Plane) (rect : Rect) (n : ℕ) → P.planes ≡ 3
-    → n ≡ length (ppm_head_of (rect.right - rect.left) (rect.bottom - rect.top)) + (rect.bottom - rect.top) * (6 * (rect.right - rect.left))
-    → n ≡ length (image P rect Ppm)
-length-pixmap P rect n planes is =
+length-pixmap : (P : Plane) (rect : Rect) → IsDeveloped P
+    → length (image P rect Ppm) ≡ length (ppm_head_of (rect.right - rect.left) (rect.bottom - rect.top)) + (rect.bottom - rect.top) * (6 * (rect.right - rect.left))
+length-pixmap P rect developed =
     let w : ℕ = rect.right - rect.left in
     let h : ℕ = rect.bottom - rect.top in
-    let count : length (crop P rect).samples ≡ h * w * 3 = length-crop P rect ∙ ap (λ (k : ℕ). h * w * k) planes in
-    let twice : h * (6 * w) ≡ 2 * (h * w * 3) = omega arith in
-    is ∙ (ap (λ (k : ℕ). length (ppm_head_of w h) + k) (twice ∙ ap (λ (k : ℕ). 2 * k) (sym count)) ∙ sym (length-image_of w h (crop P rect).samples))
+    let twice : 2 * (h * w * 3) ≡ h * (6 * w) = omega arith in
+    length-image_of w h (crop P rect).samples ∙ ap (λ (k : ℕ). length (ppm_head_of w h) + k) (ap (λ (k : ℕ). 2 * k) (length-part P rect developed) ∙ twice)
 
--- the reply to a region in its three pieces
-pub reply_pieces : (P : Plane) (rect : Rect) (n : ℕ) (head : List ℕ) → P.planes ≡ 3
-    → head ≡ ppm_head_of (rect.right - rect.left) (rect.bottom - rect.top)
-    → n ≡ length (ppm_head_of (rect.right - rect.left) (rect.bottom - rect.top)) + (rect.bottom - rect.top) * (6 * (rect.right - rect.left))
-    → reply_head_of n ++ (head ++ pixels_of Ppm (crop P rect).samples) ≡ image_reply (image P rect Ppm)
-reply_pieces P rect n head planes is-head is-length =
-    ap (λ (k : ℕ). reply_head_of k ++ (head ++ pixels_of Ppm (crop P rect).samples)) (length-pixmap P rect n planes is-length)
-    ∙ ap (λ (front : List ℕ). reply_head_of (length (image P rect Ppm)) ++ (front ++ pixels_of Ppm (crop P rect).samples)) is-head
+-- the reply to a region: the heads, and then the rows
+pub reply_pieces : (format : Format) (P : Plane) (rect : Rect) (heads : List ℕ) → IsDeveloped P
+    → heads ≡ reply_head_of (length (ppm_head_of (rect.right - rect.left) (rect.bottom - rect.top)) + (rect.bottom - rect.top) * (6 * (rect.right - rect.left))) ++ ppm_head_of (rect.right - rect.left) (rect.bottom - rect.top)
+    → heads ++ pixels_of format (crop P rect).samples ≡ image_reply (image P rect format)
+reply_pieces Ppm P rect heads developed is =
+    let head : List ℕ = ppm_head_of (rect.right - rect.left) (rect.bottom - rect.top) in
+    let pixels : List ℕ = pixels_of Ppm (crop P rect).samples in
+    let n : ℕ = length (image P rect Ppm) in
+    ap (λ (front : List ℕ). front ++ pixels) (is ∙ ap (λ (k : ℕ). reply_head_of k ++ head) (sym (length-pixmap P rect developed)))
+    ∙ append_assoc (reply_head_of n) head pixels
+
+-- the most bytes of a reply
+pub few_reply : (format : Format) (P : Plane) (rect : Rect) (heads : List ℕ) → IsDeveloped P → IsWithin rect P → length heads ≤ 64 → heads ++ pixels_of format (crop P rect).samples ≡ image_reply (image P rect format)
+    → length (image_reply (image P rect format)) ≤ max_answer
+few_reply format P rect heads developed within short is =
+    subst (λ (bytes : List ℕ). length bytes ≤ max_answer) is
+    (omega (arith, length-append heads (pixels_of format (crop P rect).samples), few_bytes format P rect developed within))

@@ -1,5 +1,8 @@
+mod Answering
 mod Endings
 mod Images
-mod Lines
+mod Openings
+mod Outsides
+mod Pieces
 mod Samples
-mod Writing
+mod Written

@@ -1,6 +1,7 @@
 -- The whole development: each stage once, over the whole plane.
 use Rattle.std.specs.Prelude.{◌≡◌, ℕ, ◌≤◌, List}
 use Rattle.plane_view.specs.Plane.{Plane, IsWhole}
+use Rattle.plane_view.specs.declared.Rect.{Rect}
 use Rattle.malvar.specs.Demosaic.{malvar, demosaiced}
 use Rattle.dng_tags.specs.Raw.{raw}
 use Rattle.dng_tags.specs.declared.Frame.{Frame}
@@ -15,3 +16,10 @@ pub record IsDeveloped (P : Plane) : Type 0 where
   pub cols : P.cols ≤ 8192
   pub planes : P.planes ≡ 3
   pub whole : IsWhole P
+
+-- the edges of a rectangle are in order, and lie within the plane
+pub record IsWithin (rect : Rect) (P : Plane) : Type 0 where
+  pub rows : rect.top ≤ rect.bottom
+  pub bottom : rect.bottom ≤ P.rows
+  pub cols : rect.left ≤ rect.right
+  pub right : rect.right ≤ P.cols

@@ -1,6 +1,10 @@
 pub mod Words
 pub mod Develop
+pub mod Refusals
+pub mod Opening
+pub mod Answers
 pub mod Replies
 pub mod Transcript
 pub mod Writes
+pub mod Opens
 pub mod Run

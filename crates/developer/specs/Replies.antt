@@ -1,31 +1,17 @@
--- The lines that are written, and the answer to a line of the script. All of it is this project's own.
-use Rattle.std.specs.Prelude.{ℕ, ◌+◌, nat_le, ◌&&◌, if◌then◌else◌, List, ◌++◌, length, Option, None, Some, Result, Ok, Err, codes, decimal}
+-- The answer to a line of the script. All of it is this project's own.
+use Rattle.std.specs.Prelude.{ℕ, ◌+◌, ◌^◌, nat_le, ◌&&◌, if◌then◌else◌, List, ◌++◌, length, Option, None, Some, Result, Ok, Err, codes}
 use Rattle.plane_view.specs.Plane.{Plane, crop}
 use Rattle.plane_view.specs.declared.Rect.{Rect}
-use Rattle.dng_tags.specs.declared.FrameFault.{FrameFault}
-use Rattle.dng_tags.specs.declared.FrameFault.TheVariants.{TooLong, NotTiff, BadDirectory, NotYet, Outside}
 use Rattle.dev_settings.specs.Commands.{line_command}
 use Rattle.dev_settings.specs.declared.command.Format.{Format}
 use Rattle.dev_settings.specs.declared.command.Command.{Command}
 use Rattle.dev_settings.specs.declared.command.Command.TheVariants.{Region}
 use Rattle.dev_settings.specs.declared.command.LineFault.{LineFault}
 use Rattle.image_out.specs.Image.{image_of, reply_head_of}
-
--- what is written where the words are refused
-abbrev pub usage_line : List ℕ
-usage_line = codes "usage: rawdev FRAME [--settings FILE] [--budget SAMPLES] [--cell N]\n"
-
--- a fault's name, and its numbers in decimal
-abbrev pub fault_text : FrameFault → List ℕ
-fault_text TooLong = codes "TooLong"
-fault_text NotTiff = codes "NotTiff"
-fault_text (BadDirectory at) = codes "BadDirectory " ++ decimal at
-fault_text NotYet = codes "NotYet"
-fault_text (Outside segment) = codes "Outside " ++ decimal segment
-
--- what is written where the frame is refused
-unfoldable pub refusal_line : FrameFault → List ℕ
-refusal_line fault = codes "refused " ++ fault_text fault ++ codes "\n"
+use Rattle.developer.specs.Answers.{Answer}
+use Rattle.developer.specs.Develop.{develop}
+use Rattle.developer.specs.Opening.{Opened}
+use Rattle.developer.specs.declared.answer.State.{State}
 
 -- the answer to each line that nothing answers yet
 abbrev pub no_yet : List ℕ
@@ -48,15 +34,24 @@ abbrev pub part_of : Plane → (x y w h : ℕ) → Option Rect
 part_of P x y w h = if nat_le (x + w) P.cols && nat_le (y + h) P.rows then Some (region_rect x y w h) else None
 
 -- the reply to a region that lies in the plane, or not
-unfoldable pub region_answer : Plane → Format → Option Rect → List ℕ
-region_answer P format (Some rect) = image_reply (image P rect format)
-region_answer P format None = no_yet
+unfoldable pub region_reply : Plane → Format → Option Rect → List ℕ
+region_reply P format (Some rect) = image_reply (image P rect format)
+region_reply P format None = no_yet
 
--- the answer to a command, over the developed plane
-unfoldable pub command_answer : Plane → Result Command LineFault → List ℕ
-command_answer P (Ok (Region x y w h format)) = region_answer P format (part_of P x y w h)
-command_answer P (Err fault) = no_yet
+-- the reply to a command, over the developed plane
+unfoldable pub command_reply : Plane → Result Command LineFault → List ℕ
+command_reply P (Ok (Region x y w h format)) = region_reply P format (part_of P x y w h)
+command_reply P (Err fault) = no_yet
 
--- the answer to a line of the script
-unfoldable pub answer_of : Plane → List ℕ → List ℕ
-answer_of P line = command_answer P (line_command line)
+-- what the lines before the first have changed: nothing
+abbrev pub first_state : State
+first_state = record {}
+
+-- the answer to a line of the script, over an opened frame
+unfoldable pub answer_of : Opened → State → List ℕ → Answer State
+answer_of frame state line =
+    record { bytes = command_reply (develop frame.bytes frame.frame) (line_command line); state = state }
+
+-- no answer has more bytes
+abbrev pub max_answer : ℕ
+max_answer = 2 ^ 29

@@ -1,81 +1,119 @@
--- What a run promises.
-use Rattle.std.specs.Prelude.{◌≡◌, ℕ, ◌<◌, ◌≤◌, ◌⊎◌, List, [], length, Option, None, Some, IfSome, Result, Ok, Err}
+-- What a run promises. This is this project's own.
+use Rattle.std.specs.Prelude.{◌≡◌, ℕ, ◌<◌, ◌≤◌, ◌⊎◌, List, [], length, Option, None, Some, IfSome, Result, Ok, Err, IsOk}
 use Rattle.raw_io.specs.Outside.{IsFrontOf, Rises}
-use Rattle.developer.specs.Words.{Options}
-use Rattle.developer.specs.Transcript.{Transcript, max_script}
-use Rattle.developer.specs.declared.answer.AnswerFault.{AnswerFault}
-use Rattle.developer.specs.declared.answer.AnswerFault.TheVariants.{Write}
-use Rattle.developer.specs.declared.answer.AnswerFault.TheVariants as faults
-use Rattle.developer.specs.declared.program.Status.{Status}
-use Rattle.developer.specs.declared.program.Status.TheVariants.{Done, Usage, ReadFault, WriteFault, Memory, ScriptTooLong}
-use Rattle.developer.specs.declared.program.Status.TheVariants as statuses
+use Rattle.developer.specs.Words.{Options, options}
+use Rattle.developer.specs.Opening.{Opening, Transcript, opened}
+use Rattle.developer.specs.Transcript.{max_script, transcript}
+use Rattle.developer.specs.declared.status.Ending.{Ending}
+use Rattle.developer.specs.declared.status.Ending.TheVariants as endings
+use Rattle.developer.specs.declared.status.Status.{Status}
+use Rattle.developer.specs.declared.status.Status.TheVariants.{Done, Usage, ReadFault, WriteFault, Memory, ScriptTooLong}
+use Rattle.developer.specs.declared.status.Status.TheVariants as statuses
 
--- what a call of `run` met
+-- the outside of a run at one moment
+pub record Outside : Type 0 where
+  -- what is told of each file, and the count of faults of each name
+  pub told : List ℕ → Option (List ℕ)
+  pub file_faults : List ℕ → ℕ
+  -- what is left of the script, where it is told, and its count of faults
+  pub left : Option (List ℕ)
+  pub script_faults : ℕ
+  -- the sink's count of faults
+  pub sink_faults : ℕ
+
+-- a call of `run`: the words, the outside before and after, the bytes that the sink took, and those taken from the script
 pub record Call : Type 0 where
-  -- what the words ask for, and what they call for over what was told
-  pub words : Option Options
-  pub called : Option Transcript
-  -- the bytes that the sink took, and those taken from the script
+  pub words : List (List ℕ)
+  pub before : Outside
+  pub after : Outside
   pub written : List ℕ
   pub taken : List ℕ
-  -- what was left of the script before and after
-  pub script : Option (List ℕ)
-  pub left : Option (List ℕ)
-  -- the counts of faults before and after
-  pub frame_before : List ℕ → ℕ
-  pub frame_after : List ℕ → ℕ
-  pub script_before : ℕ
-  pub script_after : ℕ
-  pub sink_before : ℕ
-  pub sink_after : ℕ
+
+-- what the words and the files call for, before the script
+abbrev pub opening : Call → Option Opening
+opening call = opened call.words call.before.told
+
+-- what is called for
+abbrev pub called : Call → Option Transcript
+called call = transcript call.words call.before.told call.before.left
 
 -- this status is called for, with the bytes that were written
 abbrev pub IsCalled : Call → Status → Type 0
-IsCalled call status = IfSome call.called (λ e. (e.status ≡ status) × (call.written ≡ e.bytes))
+IsCalled call status = IfSome (called call) (λ e. (e.status ≡ status) × (call.written ≡ e.bytes))
 
--- a front of the bytes that are called for was written
-abbrev pub IsFront : Call → Type 0
-IsFront call = IfSome call.called (λ e. IsFrontOf call.written e.bytes)
+-- before the script, a refusal of this status is called for, with the bytes that were written
+abbrev pub IsRefused : Call → Status → Type 0
+IsRefused call status = IfSome (opening call) (λ o. o ≡ Err (record { bytes = call.written; status = status }))
 
--- the frame is accepted, as far as it is told
-abbrev pub FrameAccepted : Call → Type 0
-FrameAccepted call = IfSome call.called (λ e. (e.status ≡ Done) ⊎ (e.status ≡ ScriptTooLong))
+-- the frame is opened, as far as it is told
+abbrev pub IsOpened : Call → Type 0
+IsOpened call = IfSome (opening call) IsOk
 
--- a read failed: the count of the frame's name rose, or that of the script, which is read only for an accepted frame
+-- a prefix of the bytes that are called for was written
+abbrev pub IsPrefix : Call → Type 0
+IsPrefix call = IfSome (called call) (λ e. IsFrontOf call.written e.bytes)
+
+-- a read failed: the count of the frame's name rose, or that of the script, which is read only of an opened frame
 abbrev pub ReadFailed : Call → Options → Type 0
 ReadFailed call chosen =
-    Rises (call.frame_before chosen.frame) (call.frame_after chosen.frame)
-    ⊎ (Rises call.script_before call.script_after × FrameAccepted call)
+    Rises (call.before.file_faults chosen.frame) (call.after.file_faults chosen.frame)
+    ⊎ (Rises call.before.script_faults call.after.script_faults × IsOpened call)
 
 -- what each status promises
 abbrev pub Ends : Call → Status → Type 0
-Ends call Done = IsCalled call Done × IfSome call.script (λ _. call.left ≡ Some [])
-Ends call Usage = (call.words ≡ None) × IsCalled call Usage × (call.taken ≡ [])
-Ends call statuses.Frame = IsCalled call statuses.Frame × (call.taken ≡ [])
+Ends call Done = IsCalled call Done × IfSome call.before.left (λ _. call.after.left ≡ Some [])
+Ends call Usage = (options call.words ≡ None) × IsRefused call Usage × (call.taken ≡ [])
+Ends call statuses.Frame = IsRefused call statuses.Frame × (call.taken ≡ [])
 Ends call ScriptTooLong = IsCalled call ScriptTooLong × (max_script < length call.taken)
 Ends call ReadFault =
-    (length call.taken ≤ max_script) × IsFront call
-    × ((chosen : Options) × (call.words ≡ Some chosen) × ReadFailed call chosen)
-Ends call WriteFault = Rises call.sink_before call.sink_after × IsFront call
-Ends call Memory = IsFront call
+    (length call.taken ≤ max_script) × IsPrefix call
+    × ((chosen : Options) × (options call.words ≡ Some chosen) × ReadFailed call chosen)
+Ends call WriteFault = Rises call.before.sink_faults call.after.sink_faults × IsPrefix call
+Ends call Memory = IsPrefix call
 
 -- no count rose
 pub record NoFault (call : Call) : Type 0 where
-  pub files : (name : List ℕ) → ¬ Rises (call.frame_before name) (call.frame_after name)
-  pub script : ¬ Rises call.script_before call.script_after
-  pub sink : ¬ Rises call.sink_before call.sink_after
+  pub files : (name : List ℕ) → ¬ Rises (call.before.file_faults name) (call.after.file_faults name)
+  pub script : ¬ Rises call.before.script_faults call.after.script_faults
+  pub sink : ¬ Rises call.before.sink_faults call.after.sink_faults
 
 -- where no count rose, the run ends as it is called for, or for want of memory
 abbrev pub Completes : Call → Status → Type 0
-Completes call status = NoFault call → IsCalled call status ⊎ ((status ≡ Memory) × IsFront call)
+Completes call status = NoFault call → IsCalled call status ⊎ ((status ≡ Memory) × IsPrefix call)
 
--- what a run promises of its status: what that status says, and that it ends for no other cause
+-- what is told of the files stays, and no count falls
+pub record Stays (call : Call) : Type 0 where
+  pub told : (name : List ℕ) → call.after.told name ≡ call.before.told name
+  pub files : (name : List ℕ) → call.before.file_faults name ≤ call.after.file_faults name
+  pub script : call.before.script_faults ≤ call.after.script_faults
+  pub sink : call.before.sink_faults ≤ call.after.sink_faults
+
+-- what a run promises of its status: what that status says, that it ends for no other cause, and what stays
 pub record Promises (call : Call) (status : Status) : Type 0 where
   pub ends : Ends call status
   pub completes : Completes call status
+  pub stays : Stays call
 
--- the status of a run whose last bytes were written with this result
-abbrev pub status_after : {T : Type 0} → Result T AnswerFault → Status → Status
-status_after (Ok value) status = status
-status_after (Err Write) status = WriteFault
-status_after (Err faults.Memory) status = Memory
+-- the status of a run that ended early
+abbrev pub status_of : Ending → Status
+status_of endings.Usage = Usage
+status_of endings.Frame = statuses.Frame
+status_of endings.ReadFault = ReadFault
+status_of endings.WriteFault = WriteFault
+status_of endings.Memory = Memory
+status_of endings.ScriptTooLong = ScriptTooLong
+
+-- the status of a run that ended early or with its script
+abbrev pub status_after : {T : Type 0} → Result T Ending → Status
+status_after (Ok value) = Done
+status_after (Err ending) = status_of ending
+
+-- the number of a status, with which the program ends
+abbrev pub status_number : Status → ℕ
+status_number Done = 0
+status_number Usage = 1
+status_number statuses.Frame = 2
+status_number ReadFault = 4
+status_number WriteFault = 5
+status_number Memory = 6
+status_number ScriptTooLong = 7

@@ -1,14 +1,15 @@
--- What writing some bytes promises.
-use Rattle.std.specs.Prelude.{◌≡◌, ℕ, ◌≤◌, List, Result, OnOk, IsErrOf}
-use Rattle.raw_io.specs.Outside.{Appends, IsFrontOf, Rises}
-use Rattle.developer.specs.declared.answer.AnswerFault.{AnswerFault}
-use Rattle.developer.specs.declared.answer.AnswerFault.TheVariants.{Write}
+-- What writing some bytes promises. This is this project's own.
+use Rattle.std.specs.Prelude.{◌≡◌, ℕ, ◌≤◌, List, length, take, Result, IfErr, IfOk, OnErr, OnOk}
+use Rattle.raw_io.specs.Outside.{Appends, Rises}
+use Rattle.raw_io.specs.declared.whole.WriteFault.{WriteFault}
 
--- these bytes were appended, all of them on Ok, else a front; a write failed only where the sink's count rose
-pub record Writes {S T : Type 0} (stands_for : S → List ℕ → Type 0) (faults : S → ℕ) (old new : S) (bytes : List ℕ) (result : Result T AnswerFault) : Type 0 where
-  pub written : List ℕ
-  pub appended : Appends stands_for old new written
-  pub front : IsFrontOf written bytes
-  pub whole : OnOk result (written ≡ bytes)
+-- On Ok all of these bytes were appended, and the value has their number. After a fault exactly the first `written` of
+-- them were, and the sink's count of faults rose; it rises for no other cause.
+pub record Writes {S T : Type 0} (stands_for : S → List ℕ → Type 0) (faults : S → ℕ) (old new : S) (bytes : List ℕ) (length_of : T → ℕ) (result : Result T WriteFault) : Type 0 where
+  pub whole : OnOk result (Appends stands_for old new bytes)
+  pub number : IfOk result (λ value. length_of value ≡ length bytes)
+  pub front : IfErr result (λ fault. Appends stands_for old new (take fault.written bytes))
+  pub within : IfErr result (λ fault. fault.written ≤ length bytes)
+  pub calm : OnOk result (faults new ≡ faults old)
   pub counts : faults old ≤ faults new
-  pub cause : IsErrOf result Write → Rises (faults old) (faults new)
+  pub cause : OnErr result (Rises (faults old) (faults new))

@@ -4,7 +4,7 @@ ghost use Rattle.std.specs.Prelude.{◌≡◌, ◌+◌, ◌-◌, ◌*◌, ◌≤
 ghost use Rattle.dng_tags.specs.Frame.{IsAccepted};
 ghost use Rattle.dng_tags.specs.Raw.{raw};
 ghost use Rattle.tiff_dirs.specs.Numbers.{short_at};
-ghost use Rattle.developer.specs.Develop.{IsDeveloped, develop};
+ghost use Rattle.developer.specs.Develop.{IsDeveloped, IsWithin, develop};
 ghost use Rattle.developer.specs.Replies.{part_of};
 
 use byteorder::{BigEndian, ByteOrder, LittleEndian};
@@ -77,8 +77,7 @@ impl Developed {
     /// The rectangle of `w` columns from `x` and `h` rows from `y`, where it lies in the plane.
     pub fn part(&self, x: u32, y: u32, w: u32, h: u32) -> Option<Rect>
         ensures rect { result ≡ part_of self.now x y w h }
-        ensures within { IfSome result (λ rect. (rect.top ≤ rect.bottom) × (rect.bottom ≤ self.now.rows)
-            × (rect.left ≤ rect.right) × (rect.right ≤ self.now.cols)) }
+        ensures within { IfSome result (λ rect. IsWithin rect self.now) }
         ensures developed { IsDeveloped self.now }
     {
         let right = u64::from(x) + u64::from(w);

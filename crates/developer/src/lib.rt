@@ -6,10 +6,12 @@
 
 mod answer;
 mod develop;
+mod opening;
 mod program;
+mod script;
+mod status;
 mod words;
+mod writing;
 
-pub use program::{Status, run};
-
-#[cfg(test)]
-mod tests;
+pub use program::run;
+pub use status::Status;

@@ -16,13 +16,17 @@ fn words(rt: &HostRuntime) -> Result<Vec<String>, AllocError> {
     }
 }
 
-fn main(rt: HostRuntime) -> ExitCode {
-    let Ok(words) = words(&rt) else {
-        return ExitCode::from(Status::Memory as u8);
+/// Runs over the files, the input and the output of the machine.
+fn status(rt: &HostRuntime) -> Status {
+    let Ok(words) = words(rt) else {
+        return Status::Memory;
     };
-    let mut files = HostFiles::new(&rt);
+    let mut files = HostFiles::new(rt);
     let mut script = StdSource::new(rt.stdin());
     let mut out = StdSink::new(rt.stdout());
-    let status = run(rt.alloc(), &words, &mut files, &mut script, &mut out);
-    ExitCode::from(status as u8)
+    run(rt.alloc(), &words, &mut files, &mut script, &mut out)
+}
+
+fn main(rt: HostRuntime) -> ExitCode {
+    ExitCode::from(status(&rt).number())
 }

@@ -1,43 +1,64 @@
-use Rattle.std.proofs.Common.{◌≡◌, ℕ, ◌+◌, ◌-◌, List, [], ◌++◌, Ok, Err, sym, ◌∙◌, ap, subst, arith}
+use Rattle.std.proofs.Common.{◌≡◌, ℕ, ◌+◌, ◌<◌, ◌≤◌, List, [], ◌++◌, length, Ok, Err, inl, inr, refl, sym, ◌∙◌, ap, subst, arith, Bool, false}
+use Rattle.std.specs.Prelude.{IsTrue}
+use Rattle.std.proofs.lemmas.Bool.{cases_lt, false≢true}
 use Rattle.std.proofs.lemmas.Result.{err_from_is_err_and}
-use Rattle.plane_view.specs.Plane.{crop}
-use Rattle.raw_io.specs.Outside.{IsFrontOf}
-use Rattle.image_out.specs.Image.{pixels_of}
-use Rattle.developer.proofs.Images.{rows_of, rows_none, rows_all, rows_front, row_written}
-use Rattle.developer.proofs.Writing.{writes_nothing, writes_same, writes_then, writes_stops}
+use Rattle.developer.specs.Writes.{Writes}
+use Rattle.developer.proofs.Pieces.{InPieces, pieces_none, pieces_few, pieces_held, pieces_sent, pieces_stop, pieces_end}
+use Rattle.developer.proofs.answer.write_rows.Goals.{then-is_full+in_ok-written, else-is_full}
 use Rattle.developer.proofs.answer.write_rows.Goals as goal
 
 pub loop-row-init : goal.loop-row-init
 loop-row-init g c =
-    let none : c.args.rect.now.top - c.args.rect.now.top ≡ 0 = omega arith in
-    writes_same g.O.Sink.stands_for g.O.Sink.faults c.args.out.now c.args.out.now c.args.out.now [] _ (Ok tt)
-    (sym (ap (rows_of c.args.format c.args.plane.now c.args.rect.now) none ∙ rows_none c.args.format c.args.plane.now c.args.rect.now))
-    (writes_nothing g.O.Sink.stands_for g.O.Sink.faults c.args.out.now tt)
+    pieces_none g.O.Sink.stands_for g.O.Sink.faults c.args.out.now c.args.piece.now c.args.format c.args.plane.now c.args.rect.now c.requires.heads
 
-pub returns-in_err-write_bytes : goal.returns-in_err-write_bytes
-returns-in_err-write_bytes g c =
+pub write_piece-requires : goal.write_piece-requires
+write_piece-requires g c =
+    pieces_few g.O.Sink.stands_for g.O.Sink.faults c.args.out.now c.args.piece.now c.args.format c.args.plane.now c.args.rect.now
+    c.loop-row.out c.loop-row.piece c.loop-row.written c.loop-row.row c.loop-row.invariant c.requires.plane c.requires.within c.requires.heads
+
+pub write_piece-requires-2 : goal.write_piece-requires-2
+write_piece-requires-2 g c =
+    pieces_few g.O.Sink.stands_for g.O.Sink.faults c.args.out.now c.args.piece.now c.args.format c.args.plane.now c.args.rect.now
+    c.loop-row.out c.loop-row.piece c.loop-row.written c.loop-row.row c.loop-row.invariant c.requires.plane c.requires.within c.requires.heads
+
+pub returns-in_err-written : goal.returns-in_err-written
+returns-in_err-written g c =
     let p = err_from_is_err_and c.from_residual.result c.from_residual.ensures.1 in
-    let so-far = rows_of c.args.format c.args.plane.now c.args.rect.now (c.loop-row.row - c.args.rect.now.top) in
-    let step = row_written c.args.format c.args.plane.now c.args.rect.now c.loop-row.row c.row.result.now c.pixel_bytes.new.out c.row.ensures.developed.whole c.row.ensures.developed.planes c.requires.rows c.requires.cols (omega arith) (omega arith) c.row.ensures.samples c.pixel_bytes.ensures in
     rw (p.1, p.2)
-    (writes_stops g.O.Sink.stands_for g.O.Sink.faults c.args.out.now c.write_bytes.new.out c.write_bytes.new.out
-    (so-far ++ c.pixel_bytes.new.out) _ c.in_err-write_bytes.field-0.0
-    (subst (λ (front : List ℕ). IsFrontOf front (pixels_of c.args.format (crop c.args.plane.now c.args.rect.now).samples)) step
-    (rows_front c.args.format c.args.plane.now c.args.rect.now (c.loop-row.row + 1 - c.args.rect.now.top)))
-    (writes_then g.O.Sink.stands_for g.O.Sink.faults c.args.out.now c.loop-row.out c.write_bytes.new.out so-far c.pixel_bytes.new.out tt (Err c.in_err-write_bytes.field-0.0)
-    c.loop-row.invariant c.in_err-write_bytes.ensures))
+    (pieces_stop g.O.Sink.stands_for g.O.Sink.faults c.args.out.now c.args.piece.now c.args.format c.args.plane.now c.args.rect.now
+    c.loop-row.out c.loop-row.piece c.loop-row.written c.loop-row.row c.loop-row.invariant c.requires.plane c.requires.within
+    c.row.result.now (omega arith) (omega arith) c.row.ensures.samples
+    c.write_piece.new.out c.push_samples.new.self c.in_err-written.field-0.0 c.push_samples.ensures.bytes
+    (c.in_err-written.ensures.writes c.args.out.now c.loop-row.invariant.sent c.loop-row.invariant.writes))
+
+-- a piece that isn't full
+not_full : (full : Bool) (piece : List ℕ) → full ≡ false → (65536 ≤ length piece → IsTrue full) → length piece < 65536
+not_full full piece is only =
+    elim (cases_lt (length piece) 65536) [ inl less ↦ less | inr more ↦ absurd (false≢true (sym is ∙ only more)) ]
 
 pub loop-row-preserved : goal.loop-row-preserved
 loop-row-preserved g c =
-    let so-far = rows_of c.args.format c.args.plane.now c.args.rect.now (c.loop-row.row - c.args.rect.now.top) in
-    let step = row_written c.args.format c.args.plane.now c.args.rect.now c.loop-row.row c.row.result.now c.pixel_bytes.new.out c.row.ensures.developed.whole c.row.ensures.developed.planes c.requires.rows c.requires.cols (omega arith) (omega arith) c.row.ensures.samples c.pixel_bytes.ensures in
-    writes_same g.O.Sink.stands_for g.O.Sink.faults c.args.out.now c.write_bytes.new.out c.write_bytes.new.out (so-far ++ c.pixel_bytes.new.out) _ (Ok tt) (sym step)
-    (writes_then g.O.Sink.stands_for g.O.Sink.faults c.args.out.now c.loop-row.out c.write_bytes.new.out so-far c.pixel_bytes.new.out tt (Ok tt)
-    c.loop-row.invariant c.in_ok-write_bytes.ensures)
+    elim c.if-is_full.branch [
+      | then-is_full+in_ok-written w ↦
+          let emptied : c.if-is_full.piece ≡ [] = w.piece-is ∙ w.in_ok-written.ensures.emptied in
+          rw (w.out-is, emptied, w.written-is)
+          (pieces_sent g.O.Sink.stands_for g.O.Sink.faults c.args.out.now c.args.piece.now c.args.format c.args.plane.now c.args.rect.now
+          c.loop-row.out c.loop-row.piece c.loop-row.written c.loop-row.row c.loop-row.invariant c.requires.plane c.requires.within
+          c.row.result.now (omega arith) (omega arith) c.row.ensures.samples
+          w.write_piece.new.out c.push_samples.new.self w.in_ok-written.written c.push_samples.ensures.bytes
+          (w.in_ok-written.ensures.writes c.args.out.now c.loop-row.invariant.sent c.loop-row.invariant.writes))
+      | else-is_full w ↦
+          rw (w.out-is, w.piece-is, w.written-is)
+          (pieces_held g.O.Sink.stands_for g.O.Sink.faults c.args.out.now c.args.piece.now c.args.format c.args.plane.now c.args.rect.now
+          c.loop-row.out c.loop-row.piece c.loop-row.written c.loop-row.row c.loop-row.invariant c.requires.plane c.requires.within
+          c.row.result.now (omega arith) (omega arith) c.row.ensures.samples
+          c.push_samples.new.self c.push_samples.ensures.bytes
+          (not_full c.is_full.result c.push_samples.new.self w.if-is_full.false c.is_full.ensures.1))
+    ]
 
 pub returns : goal.returns
 returns g c =
-    let all : c.loop-row.row - c.args.rect.now.top ≡ c.args.rect.now.bottom - c.args.rect.now.top = omega arith in
-    writes_same g.O.Sink.stands_for g.O.Sink.faults c.args.out.now c.loop-row.out c.loop-row.out _ _ (Ok tt)
-    (ap (rows_of c.args.format c.args.plane.now c.args.rect.now) all ∙ rows_all c.args.format c.args.plane.now c.args.rect.now)
-    c.loop-row.invariant
+    pieces_end g.O.Sink.stands_for g.O.Sink.faults c.args.out.now c.args.piece.now c.args.format c.args.plane.now c.args.rect.now
+    c.loop-row.out c.loop-row.piece c.loop-row.written c.loop-row.row c.loop-row.invariant c.requires.plane c.requires.within
+    c.write_piece-2.new.out c.write_piece-2.result (omega arith)
+    (c.write_piece-2.ensures.writes c.args.out.now c.loop-row.invariant.sent c.loop-row.invariant.writes)

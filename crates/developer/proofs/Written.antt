@@ -1,0 +1,71 @@
+-- Writing one run of bytes after another.
+use Rattle.std.proofs.Common.{◌≡◌, ℕ, ◌+◌, ◌≤◌, List, [], ◌++◌, length, take, drop, Result, Ok, Err, refl, sym, ◌∙◌, ap, subst, append_assoc, arith, length-append}
+use Rattle.std.proofs.lemmas.List.{take-append-le}
+use Rattle.std.proofs.Math.Seq.{take-append-add}
+use Rattle.raw_io.specs.Outside.{Appends, Rises}
+use Rattle.raw_io.specs.declared.whole.WriteFault.{WriteFault}
+use Rattle.developer.specs.Writes.{Writes}
+use Rattle.developer.proofs.Outsides.{appends_nothing, appends_then, rises_last}
+
+module _ {S : Type 0} (stands_for : S → List ℕ → Type 0) (faults : S → ℕ) where
+  -- nothing was written
+  pub writes_nothing : {T : Type 0} (sink : S) (length_of : T → ℕ) (value : T) → length_of value ≡ 0 → Writes stands_for faults sink sink [] length_of (Ok value)
+  writes_nothing sink length_of value none = record {
+    whole = appends_nothing stands_for sink;
+    number = none;
+    front = tt;
+    within = tt;
+    calm = refl;
+    counts = omega arith;
+    cause = tt;
+  }
+
+  -- the same bytes
+  pub writes_same : {T : Type 0} (old new : S) (bytes others : List ℕ) (length_of : T → ℕ) (result : Result T WriteFault) → bytes ≡ others → Writes stands_for faults old new bytes length_of result → Writes stands_for faults old new others length_of result
+  writes_same old new bytes others length_of result e w = subst (λ (b : List ℕ). Writes stands_for faults old new b length_of result) e w
+
+  -- the same with another value of the same number
+  pub writes_value : {T U : Type 0} (old new : S) (bytes : List ℕ) (f : T → ℕ) (g : U → ℕ) (value : T) (other : U) → g other ≡ f value → Writes stands_for faults old new bytes f (Ok value) → Writes stands_for faults old new bytes g (Ok other)
+  writes_value old new bytes f g value other same w =
+      record { whole = w.whole; number = same ∙ w.number; front = tt; within = tt; calm = w.calm; counts = w.counts; cause = tt }
+
+  -- a fault in a prefix is one in the whole
+  pub writes_stops : {T U : Type 0} (old new : S) (bytes more : List ℕ) (length_of : T → ℕ) (other : U → ℕ) (fault : WriteFault) → Writes stands_for faults old new bytes length_of (Err fault) → Writes stands_for faults old new (bytes ++ more) other (Err fault)
+  writes_stops old new bytes more length_of other fault w = record {
+    whole = tt;
+    number = tt;
+    front = subst (Appends stands_for old new) (sym (take-append-le fault.written bytes more w.within)) w.front;
+    within = omega (arith, length-append bytes more, w.within);
+    calm = tt;
+    counts = w.counts;
+    cause = w.cause;
+  }
+
+  -- a run, and then another
+  pub writes_then : {T U V : Type 0} (old mid new : S) (first second : List ℕ) (f : T → ℕ) (g : U → ℕ) (h : V → ℕ) (value : T) (other : U) (both : V) → h both ≡ f value + g other
+      → Writes stands_for faults old mid first f (Ok value) → Writes stands_for faults mid new second g (Ok other) → Writes stands_for faults old new (first ++ second) h (Ok both)
+  writes_then old mid new first second f g h value other both sum a b = record {
+    whole = appends_then stands_for old mid new first second a.whole b.whole;
+    number = omega (arith, sum, a.number, b.number, length-append first second);
+    front = tt;
+    within = tt;
+    calm = b.calm ∙ a.calm;
+    counts = omega (arith, a.counts, b.counts);
+    cause = tt;
+  }
+
+  -- a run, and then a fault in another
+  pub writes_then_stops : {T U V : Type 0} (old mid new : S) (first second : List ℕ) (f : T → ℕ) (g : U → ℕ) (h : V → ℕ) (value : T) (fault behind : WriteFault) → behind.written ≡ f value + fault.written
+      → Writes stands_for faults old mid first f (Ok value) → Writes stands_for faults mid new second g (Err fault) → Writes stands_for faults old new (first ++ second) h (Err behind)
+  writes_then_stops old mid new first second f g h value fault behind sum a b =
+      let at : behind.written ≡ length first + fault.written = omega (arith, sum, a.number) in
+      record {
+        whole = tt;
+        number = tt;
+        front = subst (Appends stands_for old new) (sym (ap (λ n. take n (first ++ second)) at ∙ take-append-add first second fault.written))
+            (appends_then stands_for old mid new first (take fault.written second) a.whole b.front);
+        within = omega (arith, at, b.within, length-append first second);
+        calm = tt;
+        counts = omega (arith, a.counts, b.counts);
+        cause = rises_last (faults old) (faults mid) (faults new) a.counts b.cause;
+      }
