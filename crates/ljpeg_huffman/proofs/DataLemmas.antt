@@ -3,9 +3,9 @@ use Rattle.std.proofs.Common.{drop, get_or, ne_eqb, ◌≡◌, ℕ, zero, suc, �
 use Rattle.std.proofs.Math.Nat.{zero-div}
 use Rattle.std.proofs.lemmas.Nat.{shr_high, mod_low, shl_below, one_shl}
 use Rattle.std.proofs.lemmas.Bool.{cond-true, cond-false}
-use Rattle.ljpeg_huffman.specs.Words.{bits_of}
+use Rattle.binary_digits.specs.Digits.{bits_of}
 use Rattle.ljpeg_huffman.specs.Differences.{unstuffed, data_bits, bits_left, IsWindow}
-use Rattle.ljpeg_huffman.proofs.BitLemmas.{bits_of-zero, bits_of-suc, bits_of-split, bits_of-mod}
+use Rattle.binary_digits.proofs.DigitLemmas.{bits_of-zero, bits_of-suc, bits_of-split, bits_of-mod}
 
 pub unstuffed-nil : unstuffed [] ≡ []
 unfolding unstuffed

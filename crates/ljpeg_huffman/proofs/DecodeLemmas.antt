@@ -3,9 +3,10 @@ use Rattle.std.proofs.Common.{◌≡◌, ℕ, zero, suc, ◌+◌, ◌-◌, ◌*�
 use Rattle.std.proofs.lemmas.List.{length-replicate}
 use Rattle.std.proofs.lemmas.List.Elements.{All-contains}
 use Rattle.std.proofs.lemmas.Bool.{cases_lt, cond_both, eqb-false}
-use Rattle.ljpeg_huffman.specs.Words.{bits_of, number_of, Table, IsPrefix, IsPrefixFree, low_end, high_end}
+use Rattle.binary_digits.specs.Digits.{bits_of, number_of}
+use Rattle.ljpeg_huffman.specs.Words.{Table, IsPrefix, IsPrefixFree, low_end, high_end}
 use Rattle.ljpeg_huffman.specs.Differences.{data_bits, bits_left, further_bits, difference, IsWindow, SpellsOne, BeginsWithCode, EndsWithin, HasNoCode}
-use Rattle.ljpeg_huffman.proofs.BitLemmas.{length-bits_of, number_of-bits_of, number_of-append, bits_of-split, append_same_size, append_shorter}
+use Rattle.binary_digits.proofs.DigitLemmas.{length-bits_of, number_of-bits_of, number_of-append, bits_of-split, append_same_size, append_shorter}
 use Rattle.ljpeg_huffman.proofs.DataLemmas.{left_is}
 use Rattle.ljpeg_huffman.proofs.OrderLemmas.{prefix_range, one_word}
 

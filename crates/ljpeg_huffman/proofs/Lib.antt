@@ -1,4 +1,3 @@
-pub mod BitLemmas
 pub mod DataLemmas
 pub mod DecodeLemmas
 pub mod OrderLemmas

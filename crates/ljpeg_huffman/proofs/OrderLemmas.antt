@@ -6,8 +6,9 @@ use Rattle.std.proofs.lemmas.List.{get_or_default}
 use Rattle.std.proofs.lemmas.List.Elements.{All-nil, All-cons, All-weaker}
 use Rattle.std.proofs.lemmas.List.Kept.{AllPairs-cons}
 use Rattle.std.proofs.lemmas.Bool.{cases_order, cases_lt}
-use Rattle.ljpeg_huffman.specs.Words.{bits_of, number_of, Table, words_of_length, words_from, code_words, space_from, IsPrefix, IsPrefixFree, low_end, high_end}
-use Rattle.ljpeg_huffman.proofs.BitLemmas.{length-bits_of, number_of-bits_of, number_of-append, number_of-lt, append_shorter}
+use Rattle.binary_digits.specs.Digits.{bits_of, number_of}
+use Rattle.ljpeg_huffman.specs.Words.{Table, words_of_length, words_from, code_words, space_from, IsPrefix, IsPrefixFree, low_end, high_end}
+use Rattle.binary_digits.proofs.DigitLemmas.{length-bits_of, number_of-bits_of, number_of-append, number_of-lt, append_shorter}
 
 -- The words ascend from `lo` to `hi`, and have at most 16 bits.
 abbrev pub Ascends : ℕ → Table → ℕ → Type 0

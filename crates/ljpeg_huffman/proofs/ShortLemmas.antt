@@ -3,7 +3,8 @@ use Rattle.std.proofs.Common.{◌≡◌, ℕ, zero, suc, ◌+◌, ◌-◌, ◌*�
 use Rattle.std.proofs.lemmas.Nat.{shl-shr, shr-shr}
 use Rattle.std.proofs.lemmas.Bool.{cases_eq}
 use Rattle.ljpeg_huffman.specs.declared.table.Code.{Code}
-use Rattle.ljpeg_huffman.specs.Words.{bits_of, code_words}
+use Rattle.binary_digits.specs.Digits.{bits_of}
+use Rattle.ljpeg_huffman.specs.Words.{code_words}
 use Rattle.ljpeg_huffman.specs.Short.{IsShort}
 
 pub nothing_short : (counts values : List ℕ) (place : ℕ) → IsShort counts values place None

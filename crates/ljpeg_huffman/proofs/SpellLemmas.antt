@@ -1,8 +1,9 @@
 -- Lists of differences that bits spell.
-use Rattle.std.proofs.Common.{◌≡◌, ℕ, suc, ◌<◌, Bool, List, [], ◌∷◌, ◌++◌, length, refl, sym, ap, ap₂, ◌∙◌, subst, arith, append_assoc, append-nil, ℤ, mod-eq_of_lt, ◌^◌}
-use Rattle.ljpeg_huffman.specs.Words.{bits_of, number_of, Table, IsPrefixFree}
+use Rattle.std.proofs.Common.{◌≡◌, ℕ, suc, ◌<◌, Bool, List, [], ◌∷◌, ◌++◌, length, refl, sym, ap, ap₂, ◌∙◌, subst, arith, append_assoc, append-nil, ℤ, ◌^◌}
+use Rattle.binary_digits.specs.Digits.{bits_of}
+use Rattle.ljpeg_huffman.specs.Words.{Table, IsPrefixFree}
 use Rattle.ljpeg_huffman.specs.Differences.{further_bits, difference, SpellsOne, Spells}
-use Rattle.ljpeg_huffman.proofs.BitLemmas.{length-bits_of, number_of-bits_of, append_same_size}
+use Rattle.binary_digits.proofs.DigitLemmas.{length-bits_of, same_number, append_same_size}
 use Rattle.ljpeg_huffman.proofs.OrderLemmas.{one_word}
 
 -- No bits spell no differences, and one more difference is spelled behind a list.
@@ -13,10 +14,6 @@ pub Spells-push : (values : List ℤ) (tables : ℕ → Table) (bits more : List
 Spells-push [] tables bits more value s one = (more, [], ap (λ x. x ++ more) s ∙ sym (append-nil more), one, refl)
 Spells-push (v ∷ values) tables bits more value s one =
     (s.0, s.1 ++ more, ap (λ x. x ++ more) s.2 ∙ append_assoc s.0 s.1 more, s.3, Spells-push values (λ place. tables (suc place)) s.1 more value s.4 one)
-
-same_extra : (size m n : ℕ) → m < 2 ^ size → n < 2 ^ size → bits_of size m ≡ bits_of size n → m ≡ n
-same_extra size m n hm hn e =
-    sym (number_of-bits_of size m ∙ mod-eq_of_lt hm) ∙ ap number_of e ∙ number_of-bits_of size n ∙ mod-eq_of_lt hn
 
 -- what begins the same bits and spells one difference
 pub one_difference : (table : Table) → IsPrefixFree table → (a b x y : List Bool) (m n : ℤ) → SpellsOne table a m → SpellsOne table b n → a ++ x ≡ b ++ y → (a ≡ b) × (m ≡ n) × (x ≡ y)
@@ -30,7 +27,7 @@ one_difference table free a b x y m n s t e =
     let sizes : length fs ≡ length ft = length-bits_of (further_bits s.category) s.extra ∙ ap further_bits same.1 ∙ sym (length-bits_of (further_bits t.category) t.extra) in
     let tails = append_same_size fs ft x y behind.1 sizes in
     let within : t.extra < 2 ^ further_bits s.category = subst (λ k. t.extra < 2 ^ further_bits k) (sym same.1) t.extra_fits in
-    let extra : s.extra ≡ t.extra = same_extra (further_bits s.category) s.extra t.extra s.extra_fits within (tails.0 ∙ ap (λ k. bits_of (further_bits k) t.extra) (sym same.1)) in
+    let extra : s.extra ≡ t.extra = same_number (further_bits s.category) s.extra t.extra s.extra_fits within (tails.0 ∙ ap (λ k. bits_of (further_bits k) t.extra) (sym same.1)) in
     (s.spelled ∙ ap₂ (λ w f. w ++ f) same.0 tails.0 ∙ sym t.spelled, s.stands_for ∙ ap₂ difference same.1 extra ∙ sym t.stands_for, tails.1)
 
 -- Bits spell one list of so many differences at most, whatever follows.

@@ -4,7 +4,8 @@ use Rattle.std.proofs.Math.Nat.{pow-succ', le-div_iff_mul-le}
 use Rattle.std.proofs.lemmas.List.{drop_more, drop_all}
 use Rattle.std.proofs.lemmas.List.Sums.{sum_by-drop_more}
 use Rattle.std.proofs.lemmas.List.Elements.{Contains-append_left, Contains-append_right}
-use Rattle.ljpeg_huffman.specs.Words.{bits_of, words_of_length, words_from, code_words, space_from}
+use Rattle.binary_digits.specs.Digits.{bits_of}
+use Rattle.ljpeg_huffman.specs.Words.{words_of_length, words_from, code_words, space_from}
 
 length-words : (size code : ℕ) (values : List ℕ) → length (words_of_length size code values) ≡ length values
 unfolding words_of_length

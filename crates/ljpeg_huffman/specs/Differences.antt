@@ -1,6 +1,7 @@
 -- Data bits, and the differences that they spell (ITU-T T.81, Annex H.1.2 and F.2.2).
-use Rattle.std.specs.Prelude.{◌≡◌, ℕ, suc, ◌-◌, ◌*◌, ◌^◌, ◌<◌, ◌≤◌, replicate, Bool, false, List, [], ◌∷◌, ◌++◌, length, ◌==◌, nat_lt, if◌then◌else◌, Contains, ℤ, pos, negsuc, ◌-ℤ◌, ◌⊎◌, flat_map, refl}
-use Rattle.ljpeg_huffman.specs.Words.{bits_of, Table, IsPrefix}
+use Rattle.std.specs.Prelude.{◌≡◌, ℕ, suc, ◌-◌, ◌*◌, ◌^◌, ◌<◌, ◌≤◌, replicate, Bool, false, List, [], ◌∷◌, ◌++◌, length, ◌==◌, nat_lt, if◌then◌else◌, Contains, ℤ, pos, negsuc, ◌-ℤ◌, ◌⊎◌, refl}
+use Rattle.binary_digits.specs.Digits.{bits_of, byte_bits}
+use Rattle.ljpeg_huffman.specs.Words.{Table, IsPrefix}
 
 -- The bytes of the data: a zero behind an FF is stuffed and taken out. An FF that no zero follows ends them (T.81, F.1.2.3 and B.1.1.5).
 unfoldable pub unstuffed : List ℕ → List ℕ
@@ -11,7 +12,7 @@ unstuffed (byte ∷ next ∷ bytes) =
 
 -- The data bits of a stretch of bytes: eight of each byte, the most significant first.
 unfoldable pub data_bits : List ℕ → List Bool
-data_bits bytes = flat_map (bits_of 8) (unstuffed bytes)
+data_bits bytes = byte_bits (unstuffed bytes)
 
 -- The bits that are left where some are held, in the lowest bits of a word, before those of the bytes.
 unfoldable pub bits_left : ℕ → ℕ → List ℕ → List Bool

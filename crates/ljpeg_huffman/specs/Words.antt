@@ -1,17 +1,8 @@
--- Words of bits, and the code words of a table (ITU-T T.81, Annex C).
-use Rattle.std.specs.Prelude.{◌≡◌, ℕ, zero, suc, ◌+◌, ◌-◌, ◌*◌, ◌/◌, ◌%◌, ◌^◌, ◌≤◌, Bool, List, [], ◌∷◌, ◌++◌, length, take, drop, ◌==◌, if◌then◌else◌, AllPairs, All, sum, refl, true, false, Option, Some, None, option_map, unwrap_or, find, nat_lt}
+-- The code words of a table (ITU-T T.81, Annex C).
+use Rattle.std.specs.Prelude.{◌≡◌, ℕ, suc, ◌+◌, ◌-◌, ◌*◌, ◌^◌, ◌≤◌, Bool, List, [], ◌∷◌, ◌++◌, length, take, drop, ◌==◌, if◌then◌else◌, AllPairs, All, sum, refl, true, false, Option, Some, None, option_map, unwrap_or, find, nat_lt}
+use Rattle.binary_digits.specs.Digits.{bits_of, number_of}
 use Rattle.ljpeg_huffman.specs.declared.table.TableFault.{TableFault}
 use Rattle.ljpeg_huffman.specs.declared.table.TableFault.TheVariants.{Empty, TooMany, Category, Overfull}
-
--- The lowest bits of a number as a word of this length, the most significant bit first.
-unfoldable pub bits_of : ℕ → ℕ → List Bool
-bits_of zero number = []
-bits_of (suc size) number = (number / 2 ^ size % 2 == 1) ∷ bits_of size number
-
--- The number that a word spells, the most significant bit first.
-unfoldable pub number_of : List Bool → ℕ
-number_of [] = 0
-number_of (bit ∷ word) = (if bit then 2 ^ length word else 0) + number_of word
 
 -- A table is a list of code words, each with the category that it stands for.
 abbrev pub Table : Type 0

@@ -2,7 +2,8 @@
 
 ghost use Rattle.std.specs.Prelude.{◌≡◌, ℕ, ◌+◌, ◌-◌, ◌*◌, ◌/◌, ◌^◌, ◌<◌, ◌≤◌, ◌⊎◌, ◌↔◌, List, [], ◌∷◌, ◌++◌, Bool, length, IfOk, OnErr, MatchOption, ℤ};
 ghost use Rattle.std.specs.Bool.{OnTrue};
-ghost use Rattle.ljpeg_huffman.specs.Words.{bits_of, Table, IsPrefixFree};
+ghost use Rattle.binary_digits.specs.Digits.{bits_of};
+ghost use Rattle.ljpeg_huffman.specs.Words.{Table, IsPrefixFree};
 ghost use Rattle.ljpeg_huffman.specs.Differences.{unstuffed, data_bits, bits_left, further_bits, difference, IsWindow, SpellsOne, Spells, EndsWithin, HasNoCode};
 
 use crate::table::CodeTable;

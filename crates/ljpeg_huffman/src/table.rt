@@ -3,7 +3,8 @@
 ghost use Rattle.std.specs.Prelude.{◌≡◌, ℕ, ◌+◌, ◌-◌, ◌*◌, ◌/◌, ◌^◌, ◌<◌, ◌≤◌, length, sum, IfOk, IfSome, IfNone, Contains, All, find, nat_lt, replicate, ◌++◌, slice_index_or, None};
 ghost use Rattle.std.specs.Result.{result_err};
 ghost use Rattle.ljpeg_huffman.specs.Short.{IsShort};
-ghost use Rattle.ljpeg_huffman.specs.Words.{bits_of, high_end, code_words, space_from, table_fault, IsPrefixFree, IsTable};
+ghost use Rattle.binary_digits.specs.Digits.{bits_of};
+ghost use Rattle.ljpeg_huffman.specs.Words.{high_end, code_words, space_from, table_fault, IsPrefixFree, IsTable};
 
 use std::marker::Model;
 

@@ -1,5 +1,6 @@
 use Rattle.std.proofs.Common.{◌≡◌, ◌-◌, ◌*◌, ◌/◌, ◌%◌, ◌^◌, arith, subst, Contains, mod-eq_of_lt}
-use Rattle.ljpeg_huffman.specs.Words.{bits_of, code_words}
+use Rattle.binary_digits.specs.Digits.{bits_of}
+use Rattle.ljpeg_huffman.specs.Words.{code_words}
 use Rattle.ljpeg_huffman.proofs.ShortLemmas.{nothing_short, found_short}
 use Rattle.ljpeg_huffman.proofs.table.short_code.Goals as goal
 

@@ -1,7 +1,7 @@
 use Rattle.std.proofs.Common.{◌≡◌, List, ◌++◌, Bool, arith, refl, sym, ap, ◌∙◌, subst, to_z, of_z, to_z-of_z, w32, ◌+◌, ◌-◌, ◌/◌, ◌^◌, ◌<◌}
-use Rattle.ljpeg_huffman.specs.Words.{bits_of}
+use Rattle.binary_digits.specs.Digits.{bits_of}
 use Rattle.ljpeg_huffman.specs.Differences.{bits_left, further_bits, difference, SpellsOne, HasNoCode}
-use Rattle.ljpeg_huffman.proofs.BitLemmas.{length-bits_of}
+use Rattle.binary_digits.proofs.DigitLemmas.{length-bits_of}
 use Rattle.ljpeg_huffman.proofs.DecodeLemmas.{no_code, ended_at, takes, not_ended, not_no_code, ended_or_no_code}
 use Rattle.ljpeg_huffman.proofs.bits.Bits.next_difference.Goals as goal
 use Rattle.ljpeg_huffman.proofs.bits.Bits.next_difference.Goals.{In_default, After-extended}

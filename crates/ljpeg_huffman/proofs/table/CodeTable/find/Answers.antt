@@ -1,6 +1,7 @@
 use Rattle.std.proofs.Common.{arith, subst, All, length, ◌≤◌, ◌-◌, ◌/◌, ◌^◌, Contains}
 use Rattle.ljpeg_huffman.specs.Short.{IsShort}
-use Rattle.ljpeg_huffman.specs.Words.{IsPrefixFree, high_end, bits_of, code_words}
+use Rattle.binary_digits.specs.Digits.{bits_of}
+use Rattle.ljpeg_huffman.specs.Words.{IsPrefixFree, high_end, code_words}
 use Rattle.ljpeg_huffman.proofs.ShortLemmas.{short_says}
 use Rattle.ljpeg_huffman.proofs.TableLemmas.{prefix_free_table, sizes_table, below_table, none_weaker}
 use Rattle.ljpeg_huffman.proofs.table.CodeTable.find.Goals as goal

@@ -1,7 +1,8 @@
--- Words of bits and the numbers that they spell.
+-- Binary digits and the numbers that they spell.
 use Rattle.std.proofs.Common.{◌≡◌, ℕ, zero, suc, ◌+◌, ◌*◌, ◌/◌, ◌%◌, ◌^◌, ◌<◌, ◌≤◌, Bool, true, false, cond, eqb, List, [], ◌∷◌, ◌++◌, length, refl, sym, ap, ◌∙◌, arith, pow-suc, length-append, suc-add, zero-add, add_comm, one-add}
-use Rattle.std.proofs.lemmas.Nat.{pow-add, shr-shr, mod-pow-add, field_of}
-use Rattle.ljpeg_huffman.specs.Words.{bits_of, number_of}
+use Rattle.std.proofs.lemmas.Nat.{pow-add, shr-shr, mod-pow-add, field_of, div-mul-add, mod-mul-add}
+use Rattle.std.proofs.Math.Nat.{mod-eq_of_lt}
+use Rattle.binary_digits.specs.Digits.{bits_of, byte_bits, number_of}
 
 -- one step of each definition
 pub bits_of-suc : (size number : ℕ) → bits_of (suc size) number ≡ eqb (number / 2 ^ size % 2) 1 ∷ bits_of size number
@@ -70,6 +71,10 @@ bits_of-mod (suc size) above number =
     let rest : bits_of size (number % 2 ^ (suc size + above)) ≡ bits_of size number = ap (λ k. bits_of size (number % 2 ^ k)) next ∙ bits_of-mod size (suc above) number in
     rw (bits_of-suc size number, bits_of-suc size (number % 2 ^ (suc size + above)), high, bit, rest) refl
 
+-- the digits are those of the number below 2 ^ size
+pub bits_of-low : (size number : ℕ) → bits_of size (number % 2 ^ size) ≡ bits_of size number
+bits_of-low size number = ap (λ k. bits_of size (number % 2 ^ k)) (omega arith) ∙ bits_of-mod size 0 number
+
 -- two ways to begin the same bits with words of one length
 pub append_same_size : (a b x y : List Bool) → a ++ x ≡ b ++ y → length a ≡ length b → (a ≡ b) × (x ≡ y)
 append_same_size [] [] x y e h = (refl, e)
@@ -92,3 +97,44 @@ append_shorter (c ∷ a) (d ∷ b) x y e h =
     let r = append_shorter a b x y tails (omega arith) in
     let more : b ≡ a ++ r.0 = r.1 in
     (r.0, cc)
+
+-- what stands above the digits does not matter
+pub bits_of-high : (size above low : ℕ) → low < 2 ^ size → bits_of size (above * 2 ^ size + low) ≡ bits_of size low
+bits_of-high size above low h =
+    let same : (above * 2 ^ size + low) % 2 ^ size ≡ low = mod-mul-add above (2 ^ size) low h in
+    sym (bits_of-low size (above * 2 ^ size + low)) ∙ ap (bits_of size) same
+
+-- digits put below other digits
+pub bits_of-join : (upper lower high low : ℕ) → low < 2 ^ lower → bits_of (upper + lower) (high * 2 ^ lower + low) ≡ bits_of upper high ++ bits_of lower low
+bits_of-join upper lower high low h =
+    rw (bits_of-split, div-mul-add high (2 ^ lower) low h, bits_of-high lower high low h) refl
+
+-- numbers of so many digits that have the same digits are one
+pub same_number : (size m n : ℕ) → m < 2 ^ size → n < 2 ^ size → bits_of size m ≡ bits_of size n → m ≡ n
+same_number size m n hm hn e =
+    sym (number_of-bits_of size m ∙ mod-eq_of_lt hm) ∙ ap number_of e ∙ number_of-bits_of size n ∙ mod-eq_of_lt hn
+
+one_digit_more : (bit : Bool) (digit : ℕ) (word : List Bool) → digit < 2 → eqb digit 1 ≡ bit → number_of (bit ∷ word) ≡ digit * 2 ^ length word + number_of word → bits_of (length word) (number_of word) ≡ word → bits_of (suc (length word)) (number_of (bit ∷ word)) ≡ bit ∷ word
+one_digit_more bit digit word small is e rest =
+    let number = digit * 2 ^ length word + number_of word in
+    let low = number_of-lt word in
+    let high : number / 2 ^ length word ≡ digit = div-mul-add digit (2 ^ length word) (number_of word) low in
+    let top : number / 2 ^ length word % 2 ≡ digit = rw high (omega arith) in
+    let lower : bits_of (length word) number ≡ word = bits_of-high (length word) digit (number_of word) low ∙ rest in
+    ap (bits_of (suc (length word))) e ∙ bits_of-suc (length word) number ∙ rw (top, is, lower) refl
+
+-- digits are those of the number that they spell
+pub bits_of-number_of : (word : List Bool) → bits_of (length word) (number_of word) ≡ word
+bits_of-number_of [] = bits_of-zero _
+bits_of-number_of (true ∷ word) =
+    one_digit_more true 1 word (omega arith) refl (number_of-cons true word ∙ omega arith) (bits_of-number_of word)
+bits_of-number_of (false ∷ word) =
+    one_digit_more false 0 word (omega arith) refl (number_of-cons false word ∙ omega arith) (bits_of-number_of word)
+
+-- eight digits of each byte
+pub length-byte_bits : (bytes : List ℕ) → length (byte_bits bytes) ≡ 8 * length bytes
+length-byte_bits [] = refl
+length-byte_bits (byte ∷ bytes) =
+    let whole = length-append (bits_of 8 byte) (byte_bits bytes) in
+    let rest = length-byte_bits bytes in
+    omega (arith, length-bits_of 8 byte)
