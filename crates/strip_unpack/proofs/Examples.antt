@@ -1,31 +1,32 @@
 -- The definitions at work.
-use Rattle.std.proofs.Common.{◌≡◌, [], ◌∷◌, ◌++◌, refl}
+use Rattle.std.proofs.Common.{◌≡◌, true, [], ◌∷◌, ◌++◌, refl}
 use Rattle.std.specs.List.{flat_map}
 use Rattle.tiff_dirs.specs.declared.Order.TheVariants.{Big, Little}
-use Rattle.strip_unpack.specs.Samples.{byte_digits, digits, digits_in, needed_bytes, row_bytes, word_bytes}
-
--- ten in four digits
-ten : digits 4 10 ≡ 1 ∷ 0 ∷ 1 ∷ 0 ∷ []
-unfolding digits
-ten = refl
+use Rattle.binary_digits.specs.Digits.{bits_of, byte_bits, number_of}
+use Rattle.strip_unpack.specs.Samples.{file_order, needed_bytes, row_bytes, row_sample, sample_bits, unpacked}
 
 -- AB CD EF spells ABC and DEF in either order
-twelve_bits : byte_digits (0xAB ∷ 0xCD ∷ 0xEF ∷ []) ≡ flat_map (digits_in Little 12) (0xABC ∷ 0xDEF ∷ [])
-unfolding digits digits_in
+twelve_bits : byte_bits (0xAB ∷ 0xCD ∷ 0xEF ∷ []) ≡ flat_map (sample_bits Little 12) (0xABC ∷ 0xDEF ∷ [])
+unfolding bits_of file_order sample_bits
 twelve_bits = refl
 
 -- 80 FF spells the sample 101 in nine digits, and seven ones after it
-nine_bits : byte_digits (0x80 ∷ 0xFF ∷ []) ≡ flat_map (digits_in Big 9) (0x101 ∷ []) ++ 1 ∷ 1 ∷ 1 ∷ 1 ∷ 1 ∷ 1 ∷ 1 ∷ []
-unfolding digits digits_in
+nine_bits : byte_bits (0x80 ∷ 0xFF ∷ []) ≡ flat_map (sample_bits Big 9) (0x101 ∷ []) ++ true ∷ true ∷ true ∷ true ∷ true ∷ true ∷ true ∷ []
+unfolding bits_of file_order sample_bits
 nine_bits = refl
 
--- 34 12 spells 1234 in a little file, and 3412 in a big one
-sixteen_bits_little : byte_digits (0x34 ∷ 0x12 ∷ []) ≡ flat_map (digits_in Little 16) (0x1234 ∷ [])
-unfolding digits digits_in word_bytes
+-- two rows of three samples of 12 bits, with four digits after each
+two_rows : unpacked Little 12 2 3 (0x12 ∷ 0x34 ∷ 0x56 ∷ 0x78 ∷ 0x9F ∷ 0xAB ∷ 0xCD ∷ 0xEF ∷ 0x01 ∷ 0x20 ∷ []) ≡ 0x123 ∷ 0x456 ∷ 0x789 ∷ 0xABC ∷ 0xDEF ∷ 0x012 ∷ []
+unfolding bits_of number_of file_order row_sample unpacked
+two_rows = refl
+
+-- 34 12 is the sample 1234 in a little file, and 3412 in a big one
+sixteen_bits_little : unpacked Little 16 1 1 (0x34 ∷ 0x12 ∷ []) ≡ 0x1234 ∷ []
+unfolding bits_of number_of file_order row_sample unpacked
 sixteen_bits_little = refl
 
-sixteen_bits_big : byte_digits (0x34 ∷ 0x12 ∷ []) ≡ flat_map (digits_in Big 16) (0x3412 ∷ [])
-unfolding digits digits_in word_bytes
+sixteen_bits_big : unpacked Big 16 1 1 (0x34 ∷ 0x12 ∷ []) ≡ 0x3412 ∷ []
+unfolding bits_of number_of file_order row_sample unpacked
 sixteen_bits_big = refl
 
 -- five samples of 12 bits take eight bytes, and three rows of them 24

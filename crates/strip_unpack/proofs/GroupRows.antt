@@ -3,15 +3,16 @@ use Rattle.std.proofs.Common.{◌≡◌, ℕ, ◌+◌, ◌-◌, ◌*◌, ◌/◌
 use Rattle.std.specs.List.{flat_map}
 use Rattle.std.proofs.lemmas.List.{length-set, length-take-le, take-append-drop, take_all, take_rest}
 use borrow.Rule.Slice.PartMut.{put_mid}
-use Rattle.strip_unpack.specs.Samples.{Spells, byte_digits, digits}
+use Rattle.binary_digits.specs.Digits.{bits_of, byte_bits}
+use Rattle.strip_unpack.specs.Samples.{Spells}
 use Rattle.strip_unpack.proofs.Rows.{end_written}
 use Rattle.strip_unpack.proofs.Unpacking.{Unpacked, group_end, groups_spell, next_field, spells_joined, whole_word}
 
-pub row_of_groups : (depth a k : ℕ) (out bytes xs ys : List ℕ) → length xs ≡ length (take a out) → a ≤ length out → All (λ x. x < 2 ^ depth) xs → byte_digits (take k bytes) ≡ flat_map (digits depth) xs → Spells (digits depth) depth ys (take (length bytes - k) (drop k bytes)) → Spells (digits depth) depth (put_mid a (length (xs ++ drop a out) - a) (xs ++ drop a out) ys) bytes
+pub row_of_groups : (depth a k : ℕ) (out bytes xs ys : List ℕ) → length xs ≡ length (take a out) → a ≤ length out → All (λ x. x < 2 ^ depth) xs → byte_bits (take k bytes) ≡ flat_map (bits_of depth) xs → Spells (bits_of depth) depth ys (take (length bytes - k) (drop k bytes)) → Spells (bits_of depth) depth (put_mid a (length (xs ++ drop a out) - a) (xs ++ drop a out) ys) bytes
 row_of_groups depth a k out bytes xs ys long within fits spelled rest =
-    let P : List ℕ → Type 0 = λ zs. Spells (digits depth) depth zs bytes in
-    let Q : List ℕ → Type 0 = λ bs. Spells (digits depth) depth (xs ++ ys) bs in
-    let R : List ℕ → Type 0 = λ bs. Spells (digits depth) depth ys bs in
+    let P : List ℕ → Type 0 = λ zs. Spells (bits_of depth) depth zs bytes in
+    let Q : List ℕ → Type 0 = λ bs. Spells (bits_of depth) depth (xs ++ ys) bs in
+    let R : List ℕ → Type 0 = λ bs. Spells (bits_of depth) depth ys bs in
     let joined = spells_joined depth xs ys (take k bytes) (drop k bytes) fits spelled (subst R (take_rest bytes k) rest) in
     subst P (sym (end_written a xs (drop a out) ys (long ∙ length-take-le a out within))) (subst Q (take-append-drop k bytes) joined)
 
@@ -31,6 +32,6 @@ four_fields depth word first next x0 x1 x2 x3 out bytes step room is0 is1 is2 is
     group_end depth word _ _ v3
 
 -- groups that took all samples and all bytes
-pub all_groups : (depth a k : ℕ) (out bytes : List ℕ) → length out ≤ a → length bytes ≤ k → Unpacked depth 0 0 (take a out) (take k bytes) → byte_digits bytes ≡ flat_map (digits depth) out
+pub all_groups : (depth a k : ℕ) (out bytes : List ℕ) → length out ≤ a → length bytes ≤ k → Unpacked depth 0 0 (take a out) (take k bytes) → byte_bits bytes ≡ flat_map (bits_of depth) out
 all_groups depth a k out bytes samples read u =
-    ap byte_digits (sym (take_all k bytes read)) ∙ groups_spell depth _ _ u ∙ ap (flat_map (digits depth)) (take_all a out samples)
+    ap byte_bits (sym (take_all k bytes read)) ∙ groups_spell depth _ _ u ∙ ap (flat_map (bits_of depth)) (take_all a out samples)

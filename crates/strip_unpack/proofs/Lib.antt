@@ -1,8 +1,8 @@
-pub mod Digits
 mod Examples
+pub mod FileOrder
+pub mod Formula
 pub mod GroupRows
 pub mod OneSpelling
 pub mod Rows
-pub mod SomeSpelling
 pub mod Unpacking
 pub mod Words

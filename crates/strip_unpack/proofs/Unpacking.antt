@@ -1,26 +1,25 @@
 -- Samples taken one by one from a register that bytes go into, most significant digit first.
-use Rattle.std.proofs.Common.{◌≡◌, ℕ, ◌+◌, ◌-◌, ◌*◌, ◌/◌, ◌%◌, ◌^◌, ◌<◌, ◌≤◌, List, [], ◌∷◌, ◌++◌, All, cond, eqb, false, length, get_or, set, take, inl, inr, refl, sym, subst, ap, ◌∙◌, arith, append_assoc}
+use Rattle.std.proofs.Common.{◌≡◌, ℕ, ◌+◌, ◌-◌, ◌*◌, ◌/◌, ◌%◌, ◌^◌, ◌<◌, ◌≤◌, Bool, List, [], ◌∷◌, ◌++◌, All, length, get_or, set, take, inl, inr, refl, sym, subst, ap, ◌∙◌, arith, append_assoc}
 use Rattle.std.specs.List.{flat_map}
 use Rattle.std.specs.Int.RustNames.{bit_and, bit_or}
 use Rattle.std.proofs.lemmas.Bool.{cases_lt, cases_order}
-use Rattle.std.proofs.lemmas.Bool.Decides.{nat_tests}
 use Rattle.std.proofs.lemmas.List.{append-nil, take_more, take_more_set}
 use Rattle.std.proofs.lemmas.List.Concat.{flat_map-append}
 use Rattle.std.proofs.lemmas.List.Elements.{All-append, All-nil, All-push}
 use Rattle.std.proofs.lemmas.Nat.{and_mask, field_of, mod-mul-add, mod-pow-add, one_shl, pow-add, pow_pos, mod_below, shr_below, or_shifted}
 use Rattle.std.proofs.Math.Nat.{mod-eq_of_lt, mul-le-mul_right, pow-le-pow_right}
-use Rattle.tiff_dirs.specs.declared.Order.{Order}
-use Rattle.strip_unpack.specs.Samples.{Spells, digits, byte_digits, digits_in, word_bytes}
-use Rattle.strip_unpack.proofs.Digits.{digits-add, digits-cat, digits-mod, length-digits}
+use Rattle.binary_digits.specs.Digits.{bits_of, byte_bits}
+use Rattle.strip_unpack.specs.Samples.{Spells}
+use Rattle.binary_digits.proofs.DigitLemmas.{bits_of-split, bits_of-join, bits_of-low, length-bits_of}
 
 -- the bytes so far spell the samples so far and the register's lowest `count` digits
 pub record Unpacked (depth count register : ℕ) (samples bytes : List ℕ) : Type 0 where
   pub fits : All (λ x. x < 2 ^ depth) samples
   pub below : register < 2 ^ count
-  pub spelled : byte_digits bytes ≡ flat_map (digits depth) samples ++ digits count register
+  pub spelled : byte_bits bytes ≡ flat_map (bits_of depth) samples ++ bits_of count register
 
 -- one piece more
-flat_map-push : (f : ℕ → List ℕ) (xs : List ℕ) (x : ℕ) → flat_map f (xs ++ x ∷ []) ≡ flat_map f xs ++ f x
+flat_map-push : (f : ℕ → List Bool) (xs : List ℕ) (x : ℕ) → flat_map f (xs ++ x ∷ []) ≡ flat_map f xs ++ f x
 flat_map-push f xs x = flat_map-append f xs (x ∷ []) ∙ ap (λ ys. flat_map f xs ++ ys) (append-nil (f x))
 
 -- a byte goes into the register
@@ -29,10 +28,10 @@ with_byte depth count register byte samples bytes small u = record {
   fits = u.fits;
   below = let e = pow-add 2 count 8 in let h = u.below in omega arith;
   spelled =
-      flat_map-push (digits 8) bytes byte
-      ∙ ap (λ xs. xs ++ digits 8 byte) u.spelled
-      ∙ append_assoc (flat_map (digits depth) samples) (digits count register) (digits 8 byte)
-      ∙ ap (λ xs. flat_map (digits depth) samples ++ xs) (sym (digits-cat count 8 register byte small));
+      flat_map-push (bits_of 8) bytes byte
+      ∙ ap (λ xs. xs ++ bits_of 8 byte) u.spelled
+      ∙ append_assoc (flat_map (bits_of depth) samples) (bits_of count register) (bits_of 8 byte)
+      ∙ ap (λ xs. flat_map (bits_of depth) samples ++ xs) (sym (bits_of-join count 8 register byte small));
 }
 
 -- a sample comes out of the register
@@ -45,18 +44,18 @@ with_sample depth count rest register samples bytes whole u =
       below = mod_below register (2 ^ rest) (pow_pos rest);
       spelled =
           u.spelled
-          ∙ ap (λ n. flat_map (digits depth) samples ++ digits n register) (sym whole)
-          ∙ ap (λ xs. flat_map (digits depth) samples ++ xs) (digits-add depth rest register ∙ ap (λ xs. digits depth (register / 2 ^ rest) ++ xs) (sym (digits-mod rest register)))
-          ∙ sym (append_assoc (flat_map (digits depth) samples) (digits depth (register / 2 ^ rest)) (digits rest (register % 2 ^ rest)))
-          ∙ ap (λ xs. xs ++ digits rest (register % 2 ^ rest)) (sym (flat_map-push (digits depth) samples (register / 2 ^ rest)));
+          ∙ ap (λ n. flat_map (bits_of depth) samples ++ bits_of n register) (sym whole)
+          ∙ ap (λ xs. flat_map (bits_of depth) samples ++ xs) (bits_of-split depth rest register ∙ ap (λ xs. bits_of depth (register / 2 ^ rest) ++ xs) (sym (bits_of-low rest register)))
+          ∙ sym (append_assoc (flat_map (bits_of depth) samples) (bits_of depth (register / 2 ^ rest)) (bits_of rest (register % 2 ^ rest)))
+          ∙ ap (λ xs. xs ++ bits_of rest (register % 2 ^ rest)) (sym (flat_map-push (bits_of depth) samples (register / 2 ^ rest)));
     }
 
 -- at the end what is left is padding
-pub spells_all : (depth count register : ℕ) (samples bytes : List ℕ) → count < 8 → Unpacked depth count register samples bytes → Spells (digits depth) depth samples bytes
+pub spells_all : (depth count register : ℕ) (samples bytes : List ℕ) → count < 8 → Unpacked depth count register samples bytes → Spells (bits_of depth) depth samples bytes
 spells_all depth count register samples bytes few u = record {
   fits = u.fits;
-  padding = digits count register;
-  within_byte = let e = length-digits count register in omega arith;
+  padding = bits_of count register;
+  within_byte = let e = length-bits_of count register in omega arith;
   spelled = u.spelled;
 }
 
@@ -85,7 +84,7 @@ mod-pow-mod n j k = ap (λ m. m % 2 ^ k) (mod-pow-add n j k) ∙ mod-mul-add (n 
 
 -- before the first byte
 pub nothing_yet : (depth : ℕ) → Unpacked depth 0 0 [] []
-unfolding digits
+unfolding bits_of
 nothing_yet depth = record { fits = All-nil (λ x. x < 2 ^ depth); below = omega arith; spelled = refl }
 
 -- the next byte of a row
@@ -142,28 +141,21 @@ is_whole depth i count n read low start end at few =
       ]
     ]
 
--- below depth 16 the digits of a sample are its own
-pub own_digits : (order : Order) (depth : ℕ) → depth < 16 → digits_in order depth ≡ digits depth
-unfolding digits_in
-own_digits order depth less =
-    let other : eqb depth 16 ≡ false = grind (arith, nat_tests) in
-    ap (λ b. cond b (λ x. byte_digits (word_bytes order x)) (digits depth)) other
-
 -- whole groups, and the rest of the row after them
-pub spells_joined : (depth : ℕ) (xs ys bytes more : List ℕ) → All (λ x. x < 2 ^ depth) xs → byte_digits bytes ≡ flat_map (digits depth) xs → Spells (digits depth) depth ys more → Spells (digits depth) depth (xs ++ ys) (bytes ++ more)
+pub spells_joined : (depth : ℕ) (xs ys bytes more : List ℕ) → All (λ x. x < 2 ^ depth) xs → byte_bits bytes ≡ flat_map (bits_of depth) xs → Spells (bits_of depth) depth ys more → Spells (bits_of depth) depth (xs ++ ys) (bytes ++ more)
 spells_joined depth xs ys bytes more fits spelled rest = record {
   fits = All-append (λ x. x < 2 ^ depth) xs ys fits rest.fits;
   padding = rest.padding;
   within_byte = rest.within_byte;
   spelled =
-      flat_map-append (digits 8) bytes more
-      ∙ ap (λ ds. ds ++ byte_digits more) spelled
-      ∙ ap (λ ds. flat_map (digits depth) xs ++ ds) rest.spelled
-      ∙ sym (append_assoc (flat_map (digits depth) xs) (flat_map (digits depth) ys) rest.padding)
-      ∙ ap (λ ds. ds ++ rest.padding) (sym (flat_map-append (digits depth) xs ys));
+      flat_map-append (bits_of 8) bytes more
+      ∙ ap (λ ds. ds ++ byte_bits more) spelled
+      ∙ ap (λ ds. flat_map (bits_of depth) xs ++ ds) rest.spelled
+      ∙ sym (append_assoc (flat_map (bits_of depth) xs) (flat_map (bits_of depth) ys) rest.padding)
+      ∙ ap (λ ds. ds ++ rest.padding) (sym (flat_map-append (bits_of depth) xs ys));
 }
 
 -- the samples of whole groups
-pub groups_spell : (depth : ℕ) (samples bytes : List ℕ) → Unpacked depth 0 0 samples bytes → byte_digits bytes ≡ flat_map (digits depth) samples
-unfolding digits
-groups_spell depth samples bytes u = u.spelled ∙ append-nil (flat_map (digits depth) samples)
+pub groups_spell : (depth : ℕ) (samples bytes : List ℕ) → Unpacked depth 0 0 samples bytes → byte_bits bytes ≡ flat_map (bits_of depth) samples
+unfolding bits_of
+groups_spell depth samples bytes u = u.spelled ∙ append-nil (flat_map (bits_of depth) samples)

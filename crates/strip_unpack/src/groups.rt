@@ -2,7 +2,8 @@
 
 ghost use Rattle.std.specs.Prelude.{◌≡◌, ◌+◌, ◌*◌, ◌/◌, ◌%◌, ◌^◌, ◌<◌, ◌≤◌, length, All};
 ghost use Rattle.std.specs.List.{flat_map};
-ghost use Rattle.strip_unpack.specs.Samples.{Spells, byte_digits, digits, row_bytes};
+ghost use Rattle.binary_digits.specs.Digits.{bits_of, byte_bits};
+ghost use Rattle.strip_unpack.specs.Samples.{Spells, row_bytes};
 
 use crate::packed::unpack_row;
 
@@ -30,7 +31,7 @@ fn unpack_groups_10(groups: usize, bytes: &[u8], out: &mut [u16])
     requires bytes { length bytes.now ≡ groups * 5 }
     requires out { length out.old ≡ groups * 4 }
     ensures fits { All (λ x. x < 2 ^ 10) out.new }
-    ensures spelled { byte_digits bytes.now ≡ flat_map (digits 10) out.new }
+    ensures spelled { byte_bits bytes.now ≡ flat_map (bits_of 10) out.new }
 {
     for group in 0..groups {
         let at = group * 5;
@@ -49,7 +50,7 @@ fn unpack_groups_10(groups: usize, bytes: &[u8], out: &mut [u16])
 /// Unpacks a row of samples of 10 bits.
 pub(crate) fn unpack_row_10(bytes: &[u8], out: &mut [u16])
     requires { length bytes.now ≡ row_bytes 10 (length out.old) }
-    ensures { Spells (digits 10) 10 out.new bytes.now }
+    ensures { Spells (bits_of 10) 10 out.new bytes.now }
 {
     let groups = out.len() / 4;
     unpack_groups_10(groups, &bytes[..groups * 5], &mut out[..groups * 4]);
@@ -61,7 +62,7 @@ fn unpack_groups_12(groups: usize, bytes: &[u8], out: &mut [u16])
     requires bytes { length bytes.now ≡ groups * 3 }
     requires out { length out.old ≡ groups * 2 }
     ensures fits { All (λ x. x < 2 ^ 12) out.new }
-    ensures spelled { byte_digits bytes.now ≡ flat_map (digits 12) out.new }
+    ensures spelled { byte_bits bytes.now ≡ flat_map (bits_of 12) out.new }
 {
     for group in 0..groups {
         let at = group * 3;
@@ -78,7 +79,7 @@ fn unpack_groups_12(groups: usize, bytes: &[u8], out: &mut [u16])
 /// Unpacks a row of samples of 12 bits.
 pub(crate) fn unpack_row_12(bytes: &[u8], out: &mut [u16])
     requires { length bytes.now ≡ row_bytes 12 (length out.old) }
-    ensures { Spells (digits 12) 12 out.new bytes.now }
+    ensures { Spells (bits_of 12) 12 out.new bytes.now }
 {
     let groups = out.len() / 2;
     unpack_groups_12(groups, &bytes[..groups * 3], &mut out[..groups * 2]);
@@ -90,7 +91,7 @@ fn unpack_groups_14(groups: usize, bytes: &[u8], out: &mut [u16])
     requires bytes { length bytes.now ≡ groups * 7 }
     requires out { length out.old ≡ groups * 4 }
     ensures fits { All (λ x. x < 2 ^ 14) out.new }
-    ensures spelled { byte_digits bytes.now ≡ flat_map (digits 14) out.new }
+    ensures spelled { byte_bits bytes.now ≡ flat_map (bits_of 14) out.new }
 {
     for group in 0..groups {
         let at = group * 7;
@@ -111,7 +112,7 @@ fn unpack_groups_14(groups: usize, bytes: &[u8], out: &mut [u16])
 /// Unpacks a row of samples of 14 bits.
 pub(crate) fn unpack_row_14(bytes: &[u8], out: &mut [u16])
     requires { length bytes.now ≡ row_bytes 14 (length out.old) }
-    ensures { Spells (digits 14) 14 out.new bytes.now }
+    ensures { Spells (bits_of 14) 14 out.new bytes.now }
 {
     let groups = out.len() / 4;
     unpack_groups_14(groups, &bytes[..groups * 7], &mut out[..groups * 4]);

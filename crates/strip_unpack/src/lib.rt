@@ -4,7 +4,8 @@
 
 ghost use Rattle.std.specs.Prelude.{ℕ, List, ◌≡◌, ◌+◌, ◌*◌, ◌≤◌, ◌<◌, ◌↔◌, length, OnOk, OnErr, IsErr, IfErr};
 ghost use Rattle.tiff_dirs.specs.declared.Order.{Order as FileOrder};
-ghost use Rattle.strip_unpack.specs.Samples.{HasOneSpelling, Spells, SpellsRows, digits, digits_in, needed_bytes, row_bytes};
+ghost use Rattle.binary_digits.specs.Digits.{bits_of};
+ghost use Rattle.strip_unpack.specs.Samples.{HasOneSpelling, Spells, needed_bytes, row_bytes, sample_bits, unpacked};
 
 use byteorder::{BigEndian, ByteOrder, LittleEndian};
 use std::error::Error;
@@ -51,7 +52,7 @@ pub fn unpack(
     requires low { 8 ≤ depth }
     requires high { depth ≤ 16 }
     requires room { length out.old ≡ rows * cols }
-    ensures ok { OnOk result (SpellsRows order depth rows cols out.new bytes.now) }
+    ensures ok { OnOk result (out.new ≡ unpacked order depth rows cols bytes.now) }
 
     ensures short { IsErr result ↔ (length bytes.now < needed_bytes depth rows cols) }
     ensures lengths { IfErr result (λ e. (e.needed ≡ needed_bytes depth rows cols) × (e.had ≡ length bytes.now)) }
@@ -75,10 +76,10 @@ pub fn unpack(
     Ok(())
 }
 
-/// The law that [`unpack`] stands on: bytes that are enough for the rows spell exactly one list of samples.
+/// The samples that [`unpack`] writes are the only ones that the bytes spell, where the bytes are enough for the rows.
 pub fn one_spelling()
     ensures { (order : FileOrder) (depth rows cols : ℕ) (bytes : List ℕ) → depth ≤ 16
-        → needed_bytes depth rows cols ≤ length bytes → HasOneSpelling order depth rows cols bytes }
+        → needed_bytes depth rows cols ≤ length bytes → HasOneSpelling order depth rows cols (unpacked order depth rows cols bytes) bytes }
 {}
 
 /// Unpacks one row.
@@ -86,7 +87,7 @@ fn unpack_row(bytes: &[u8], depth: u32, order: Order, out: &mut [u16])
     requires low { 8 ≤ depth }
     requires high { depth ≤ 16 }
     requires row { length bytes.now ≡ row_bytes depth (length out.old) }
-    ensures { Spells (digits_in order depth) depth out.new bytes.now }
+    ensures { Spells (sample_bits order depth) depth out.new bytes.now }
 {
     match depth {
         8 => unpack_bytes(bytes, out),
@@ -101,7 +102,7 @@ fn unpack_row(bytes: &[u8], depth: u32, order: Order, out: &mut [u16])
 /// Unpacks a row of samples of 8 bits.
 fn unpack_bytes(bytes: &[u8], out: &mut [u16])
     requires { length bytes.now ≡ length out.old }
-    ensures { Spells (digits 8) 8 out.new bytes.now }
+    ensures { Spells (bits_of 8) 8 out.new bytes.now }
 {
     for (i, byte) in bytes.iter().enumerate() {
         out[i] = u16::from(*byte);
@@ -111,7 +112,7 @@ fn unpack_bytes(bytes: &[u8], out: &mut [u16])
 /// Unpacks a row of samples of 16 bits.
 fn unpack_words(bytes: &[u8], order: Order, out: &mut [u16])
     requires { length bytes.now ≡ 2 * length out.old }
-    ensures { Spells (digits_in order 16) 16 out.new bytes.now }
+    ensures { Spells (sample_bits order 16) 16 out.new bytes.now }
 {
     match order {
         Order::Little => LittleEndian::read_u16_into(bytes, out),

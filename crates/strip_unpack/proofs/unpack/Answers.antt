@@ -1,14 +1,15 @@
 use Rattle.std.proofs.Common.{ℕ, List, ◌≡◌, ◌+◌, ◌-◌, ◌*◌, ◌≤◌, length, drop, take, below_more, length-drop, sym, ◌∙◌, subst, arith}
 use Rattle.std.proofs.lemmas.List.{length-take}
 use Rattle.std.proofs.Math.Nat.{mul-le-mul_left, mul-le-mul_right}
-use Rattle.strip_unpack.specs.Samples.{Spells, digits_in, part_at}
+use Rattle.strip_unpack.specs.Samples.{Spells, part_at, row_bytes, sample_bits}
+use Rattle.strip_unpack.proofs.Formula.{formula_alone}
 use Rattle.strip_unpack.proofs.Rows.{part_before, part_written}
 use Rattle.strip_unpack.proofs.unpack.Goals as goal
 
 pub overflow_mul-needed : goal.overflow_mul-needed
 overflow_mul-needed c =
     let n = c.div_ceil-row_length.result in
-    let digits : c.args.cols * c.args.depth ≤ c.args.cols * 16 = mul-le-mul_left c.args.cols c.requires.high in
+    let most_bits : c.args.cols * c.args.depth ≤ c.args.cols * 16 = mul-le-mul_left c.args.cols c.requires.high in
     let row : n ≤ 2 * c.args.cols = omega arith in
     let most : c.args.rows * n ≤ c.args.rows * (2 * c.args.cols) = mul-le-mul_left c.args.rows row in
     omega arith
@@ -19,7 +20,7 @@ loop-row-preserved c =
     let n = c.div_ceil-row_length.result in
     let cols = c.args.cols in
     let row = c.unpack_row.new.out in
-    let f = digits_in c.args.order c.args.depth in
+    let f = sample_bits c.args.order c.args.depth in
     let bytes = c.args.bytes.now in
     let within : (l.row + 1) * cols ≤ c.args.rows * cols = mul-le-mul_right cols (omega arith) in
     let room : l.row * cols ≤ length l.out = omega arith in
@@ -31,3 +32,17 @@ loop-row-preserved c =
     subst Q (sym (part_before cols l.row _ k l.out row h room)) (l.invariant k h))
     (let Q : List ℕ → Type 0 = λ xs. Spells f c.args.depth xs (part_at n l.row bytes) in
     subst Q (sym (part_written cols l.row _ l.out row long room)) (subst (P 0) length_is c.unpack_row.ensures))
+
+pub returns-clause-ok : goal.returns-clause-ok
+returns-clause-ok c =
+    let l = c.loop-row in
+    let depth = c.args.depth in
+    let bytes = c.args.bytes.now in
+    let width : c.div_ceil-row_length.result ≡ row_bytes depth c.args.cols = omega arith in
+    let P : ℕ → Type 0 = λ w. c.args.rows * w ≤ length bytes in
+    formula_alone c.args.order depth c.args.rows c.args.cols bytes l.out c.requires.high (subst P width c.if-bytes-needed.false) (record {
+      count = omega arith;
+      row = λ k h.
+          let Q : ℕ → Type 0 = λ w. Spells (sample_bits c.args.order depth) depth (part_at c.args.cols k l.out) (part_at w k bytes) in
+          subst Q width (l.invariant k (omega arith));
+    })

@@ -1,6 +1,7 @@
 use Rattle.std.proofs.Common.{◌≡◌, ◌+◌, ◌-◌, ◌*◌, ◌/◌, ◌^◌, ℕ, List, length, take, ap, refl, subst, arith}
 use Rattle.std.proofs.lemmas.List.{take_all}
-use Rattle.strip_unpack.specs.Samples.{Spells, digits}
+use Rattle.binary_digits.specs.Digits.{bits_of}
+use Rattle.strip_unpack.specs.Samples.{Spells}
 use Rattle.strip_unpack.proofs.Unpacking.{has_place, is_whole, joined, masked, next_byte, next_sample, nothing_yet, sample_fits, spells_all}
 use Rattle.strip_unpack.proofs.packed.unpack_row.Goals as goal
 use Rattle.strip_unpack.proofs.packed.unpack_row.Goals.{then-depth-count, else-depth-count}
@@ -43,6 +44,6 @@ returns c =
     let digits_out : l.i * c.args.depth ≡ n * c.args.depth = ap (λ k. k * c.args.depth) whole in
     let samples = take_all l.i l.out (omega arith) in
     let bytes = take_all l.byte-index c.args.bytes.now (omega arith) in
-    let P : List ℕ → Type 0 = λ xs. Spells (digits c.args.depth) c.args.depth xs c.args.bytes.now in
-    let Q : List ℕ → Type 0 = λ xs. Spells (digits c.args.depth) c.args.depth (take l.i l.out) xs in
+    let P : List ℕ → Type 0 = λ xs. Spells (bits_of c.args.depth) c.args.depth xs c.args.bytes.now in
+    let Q : List ℕ → Type 0 = λ xs. Spells (bits_of c.args.depth) c.args.depth (take l.i l.out) xs in
     subst P samples (subst Q bytes (spells_all c.args.depth l.count l.pending _ _ (omega arith) l.invariant.unpacked))
