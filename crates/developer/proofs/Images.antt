@@ -24,12 +24,12 @@ unfolding rows_of
 rows_none Ppm P rect = ap (pixels_of Ppm) (crop_none P rect)
 
 -- one row more
-pub rows_more : (format : Format) (P : Plane) (rect : Rect) (k row : ℕ) → IsWhole P → LiesIn rect (rect_of P) → rect.top + k ≡ row → row < rect.bottom
+pub rows_more : (format : Format) (P : Plane) (rect : Rect) (k row : ℕ) → IsWhole P → LiesIn rect (rect_of P) → rect.left ≤ rect.right → rect.top + k ≡ row → row < rect.bottom
     → rows_of format P rect (k + 1) ≡ rows_of format P rect k ++ pixels_of format (take ((rect.right - rect.left) * P.planes) (drop ((row * P.cols + rect.left) * P.planes) P.samples))
 unfolding rows_of
-rows_more format P rect k row whole lies is-row below =
+rows_more format P rect k row whole lies order is-row below =
     let inside : k < rect.bottom - rect.top = omega arith in
-    ap (pixels_of format) (crop_more P rect k whole lies inside)
+    ap (pixels_of format) (crop_more P rect k whole lies order inside)
     ∙ (pixels_of-append format _ _ ∙ ap (λ (r : ℕ). rows_of format P rect k ++ pixels_of format (take ((rect.right - rect.left) * P.planes) (drop ((r * P.cols + rect.left) * P.planes) P.samples))) is-row)
 
 -- all rows
@@ -50,11 +50,11 @@ pub row_more : (format : Format) (P : Plane) (rect : Rect) (row : ℕ) (samples 
     → samples ≡ take ((rect.right - rect.left) * 3) (drop ((row * P.cols + rect.left) * 3) P.samples)
     → rows_of format P rect (row + 1 - rect.top) ≡ rows_of format P rect (row - rect.top) ++ pixels_of format samples
 row_more format P rect row samples developed within after before is-samples =
-    let lies : LiesIn rect (rect_of P) = record { top = omega arith; rows = within.rows; bottom = within.bottom; left = omega arith; cols = within.cols; right = within.right } in
+    let lies : LiesIn rect (rect_of P) = record { top = omega arith; bottom = within.bottom; left = omega arith; right = within.right } in
     let next : row + 1 - rect.top ≡ row - rect.top + 1 = omega arith in
     let here : rect.top + (row - rect.top) ≡ row = omega arith in
     ap (rows_of format P rect) next
-    ∙ (rows_more format P rect (row - rect.top) row developed.whole lies here before
+    ∙ (rows_more format P rect (row - rect.top) row developed.whole lies within.cols here before
     ∙ ap (λ (bytes : List ℕ). rows_of format P rect (row - rect.top) ++ bytes)
     (ap (λ (n : ℕ). pixels_of format (take ((rect.right - rect.left) * n) (drop ((row * P.cols + rect.left) * n) P.samples))) developed.planes
     ∙ ap (pixels_of format) (sym is-samples)))

@@ -1,13 +1,13 @@
 -- Laws of crops, for callers that write a crop row by row.
-use Rattle.std.proofs.Common.{◌≡◌, ℕ, zero-add, ◌+◌, ◌-◌, ◌*◌, ◌<◌, ◌≤◌, List, [], ◌++◌, length, get_or, take, drop, refl, sym, ◌∙◌, ap, subst, arith, ⊎_elim}
+use Rattle.std.proofs.Common.{◌≡◌, ℕ, ◌+◌, ◌-◌, ◌*◌, ◌<◌, ◌≤◌, List, [], ◌++◌, length, get_or, take, drop, refl, sym, ◌∙◌, ap, subst, arith, ⊎_elim}
 use Rattle.std.proofs.Math.ListN.{get_or-append}
 use Rattle.std.proofs.lemmas.List.{get_or-append_right, get_or-take, get_or-drop, length-take-le, length-drop, length-append, take_all}
-use Rattle.std.proofs.Math.Nat.{mul-le-mul_right, sub-zero}
+use Rattle.std.proofs.Math.Nat.{mul-le-mul_right}
 use Rattle.std.proofs.lemmas.Bool.{cases_lt}
 use Rattle.std.proofs.lemmas.List.FromFn.{take-map-range_with_len}
 use Rattle.plane_view.specs.declared.Rect.{Rect}
 use Rattle.plane_view.specs.Rectangles.{LiesIn, rect_of}
-use Rattle.plane_view.specs.Plane.{Plane, place, sample, samples_of, plane_of, IsWhole, crop}
+use Rattle.plane_view.specs.Plane.{Plane, place, sample, samples_of, IsWhole, crop}
 use Rattle.plane_view.proofs.Samples.{length-samples_of, place_below, get_or-samples_of, same_samples}
 
 -- the first rows
@@ -42,22 +42,22 @@ pub length-crop : (P : Plane) (rect : Rect) → length (crop P rect).samples ≡
 length-crop P rect = length-samples_of (rect.bottom - rect.top) (rect.right - rect.left) P.planes _
 
 -- the last row of a rectangle that lies in the plane ends within the plane's samples
-row_inside : (P : Plane) (rect : Rect) (k : ℕ) → IsWhole P → LiesIn rect (rect_of P) → k < rect.bottom - rect.top → ((rect.top + k) * P.cols + rect.left) * P.planes + (rect.right - rect.left) * P.planes ≤ length P.samples
-row_inside P rect k whole lies below =
+row_inside : (P : Plane) (rect : Rect) (k : ℕ) → IsWhole P → LiesIn rect (rect_of P) → rect.left ≤ rect.right → k < rect.bottom - rect.top → ((rect.top + k) * P.cols + rect.left) * P.planes + (rect.right - rect.left) * P.planes ≤ length P.samples
+row_inside P rect k whole lies order below =
     let row : (rect.top + k + 1) * P.cols ≤ P.rows * P.cols = mul-le-mul_right P.cols (omega arith) in
     let pixels : (rect.top + k) * P.cols + rect.left + (rect.right - rect.left) ≤ P.rows * P.cols = omega arith in
     let samples : ((rect.top + k) * P.cols + rect.left + (rect.right - rect.left)) * P.planes ≤ P.rows * P.cols * P.planes = mul-le-mul_right P.planes pixels in
     omega arith
 
 -- one more row of a crop: a part of the plane's samples
-pub crop_more : (P : Plane) (rect : Rect) (k : ℕ) → IsWhole P → LiesIn rect (rect_of P) → k < rect.bottom - rect.top
+pub crop_more : (P : Plane) (rect : Rect) (k : ℕ) → IsWhole P → LiesIn rect (rect_of P) → rect.left ≤ rect.right → k < rect.bottom - rect.top
     → take ((k + 1) * ((rect.right - rect.left) * P.planes)) (crop P rect).samples
     ≡ take (k * ((rect.right - rect.left) * P.planes)) (crop P rect).samples
     ++ take ((rect.right - rect.left) * P.planes) (drop (((rect.top + k) * P.cols + rect.left) * P.planes) P.samples)
-crop_more P rect k whole lies below =
+crop_more P rect k whole lies order below =
     let w : ℕ = rect.right - rect.left in
     let at : ℕ = ((rect.top + k) * P.cols + rect.left) * P.planes in
-    let fits : at + w * P.planes ≤ length P.samples = row_inside P rect k whole lies below in
+    let fits : at + w * P.planes ≤ length P.samples = row_inside P rect k whole lies order below in
     take-samples_of (rect.bottom - rect.top) w P.planes (k + 1) _ (omega arith)
     ∙ samples_of_more k w P.planes (λ r c p. sample P (rect.top + r) (rect.left + c) p) (take (w * P.planes) (drop at P.samples))
     (length-take-le (w * P.planes) (drop at P.samples) (omega (arith, length-drop at P.samples)))
@@ -75,13 +75,3 @@ crop_all P rect = take_all _ _ (omega (arith, length-crop P rect))
 -- no row of a crop
 pub crop_none : (P : Plane) (rect : Rect) → take (0 * ((rect.right - rect.left) * P.planes)) (crop P rect).samples ≡ []
 crop_none P rect = let none : 0 * ((rect.right - rect.left) * P.planes) ≡ 0 = omega arith in rw none refl
-
--- a whole plane is the plane of its samples
-pub plane_of_samples : (P : Plane) → IsWhole P → plane_of P.rows P.cols P.planes (λ r c p. sample P r c p) ≡ P
-plane_of_samples P whole =
-    ap (λ (xs : List ℕ). record P { samples = xs })
-    (sym (same_samples P.rows P.cols P.planes (λ r c p. sample P r c p) P.samples whole (λ r c p hr hc hp. refl)))
-
--- the crop to the whole of a plane is the plane
-pub crop_whole : (P : Plane) → IsWhole P → crop P (rect_of P) ≡ P
-crop_whole P whole = simp (zero-add, sub-zero) (plane_of_samples P whole)

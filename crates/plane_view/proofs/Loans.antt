@@ -1,12 +1,11 @@
--- Laws of tiles: one write after another, and the end of a loan.
+-- Laws of tiles: one write after another, and row after row.
 use Rattle.std.proofs.Common.{◌≡◌, ℕ, ◌+◌, ◌-◌, ◌*◌, ◌<◌, ◌≤◌, ⊎_elim, get_or, refl, sym, ◌∙◌, ap, subst, arith}
 use Rattle.std.proofs.lemmas.Bool.{cases_lt}
 use Rattle.plane_view.specs.declared.Rect.{Rect}
 use Rattle.plane_view.specs.declared.tiles.TileMut.{TileMut}
 use Rattle.plane_view.specs.Rectangles.{HasPixel}
-use Rattle.plane_view.specs.Lent.{sample_at, part_of}
-use Rattle.plane_view.specs.Tiles.{loan, tile, tile_rect, row_in, KeepsOtherRows, SameLoan}
-use Rattle.plane_view.proofs.Parts.{part_whole}
+use Rattle.plane_view.specs.Lent.{sample_at}
+use Rattle.plane_view.specs.Tiles.{loan, tile_rect, row_in, KeepsOtherRows, SameLoan}
 use Rattle.plane_view.proofs.Writes.{pixel_in, row_in_at}
 
 -- nothing is written
@@ -27,10 +26,6 @@ then_loan s t u first second =
           (subst (λ (n : ℕ). p < n) (sym first.planes) plane)
           ∙ first.outside r c p pixel out plane;
     }
-
--- a tile over all that was lent shows all samples of the slice
-pub tile_of_whole : (t : TileMut) → t.home ≡ t.rect → tile t ≡ loan t
-tile_of_whole t whole = subst (λ (x : Rect). part_of (loan t) x ≡ loan t) whole (part_whole (loan t) t.long)
 
 -- one more row: r has the samples f r c p, and so have the rows above it
 pub rows_more : (old new : TileMut) (r : ℕ) (f : ℕ → ℕ → ℕ → ℕ)

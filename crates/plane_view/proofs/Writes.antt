@@ -10,14 +10,14 @@ use borrow.Rule.Slice.PartMut.{put_mid, post_of}
 use Rattle.plane_view.specs.Tiles.{PutsRun, row_in}
 use Rattle.plane_view.specs.declared.Rect.{Rect}
 use Rattle.plane_view.specs.Plane.{place}
-use Rattle.plane_view.specs.Rectangles.{HasPixel, height, width}
-use Rattle.plane_view.specs.Lent.{Lent, place_in, sample_at, HasRow, HasRun, IsFull, StaysIn}
+use Rattle.plane_view.specs.Rectangles.{HasPixel, LiesIn, height, width}
+use Rattle.plane_view.specs.Lent.{Lent, place_in, sample_at, HasRow, HasRun, IsFull}
 use Rattle.plane_view.proofs.Samples.{place_below}
 use Rattle.plane_view.proofs.Parts.{part_row_inside}
 
 -- a pixel of a part is one of the lender
-pub pixel_in : (outer inner : Rect) (r c : ℕ) → StaysIn inner outer → HasPixel inner r c → HasPixel outer r c
-pixel_in outer inner r c stays pixel = record { top = omega arith; bottom = omega arith; left = omega arith; right = omega arith }
+pub pixel_in : (outer inner : Rect) (r c : ℕ) → LiesIn inner outer → HasPixel inner r c → HasPixel outer r c
+pixel_in outer inner r c lies pixel = record { top = omega arith; bottom = omega arith; left = omega arith; right = omega arith }
 
 -- a place of a full part
 pub place_in_below : (L : Lent) (r c p : ℕ) → IsFull L → HasPixel L.rect r c → p < L.planes → place_in L.rect L.planes r c p < length L.samples
@@ -41,7 +41,7 @@ with_samples L xs = record L { samples = xs }
 pub put_here : (L : Lent) (r c p v : ℕ) → IsFull L → HasPixel L.rect r c → p < L.planes → sample_at (with_samples L (set L.samples (place_in L.rect L.planes r c p) v)) r c p ≡ v
 put_here L r c p v full pixel plane = get_or-set_same L.samples (place_in L.rect L.planes r c p) v 0 (place_in_below L r c p full pixel plane)
 
--- another one stays
+-- another one lies
 pub put_elsewhere : (L : Lent) (r c p v r' c' p' : ℕ) → HasPixel L.rect r c → p < L.planes → HasPixel L.rect r' c' → p' < L.planes → (r' ≡ r → c' ≡ c → p' ≡ p → ⊥)
     → sample_at (with_samples L (set L.samples (place_in L.rect L.planes r c p) v)) r' c' p' ≡ sample_at L r' c' p'
 put_elsewhere L r c p v r' c' p' pixel plane pixel' plane' other =
@@ -72,7 +72,7 @@ after_mid a k xs ys i within long above =
     ∙ (let back : a + (k + (i - a - k)) ≡ i = omega arith in ap (λ n. get_or xs n 0) back)
 
 -- a run ends within the samples
-pub run_inside : (L : Lent) (r c n : ℕ) → IsFull L → HasRun L.rect r c n → place_in L.rect L.planes r c 0 + n * L.planes ≤ length L.samples
+pub run_inside : (L : Lent) (r c n : ℕ) → IsFull L → HasRun L.rect r c (c + n) → place_in L.rect L.planes r c 0 + n * L.planes ≤ length L.samples
 run_inside L r c n full run =
     let w : ℕ = width L.rect in
     let i : ℕ = r - L.rect.top in
@@ -87,7 +87,7 @@ abbrev pub with_run : Lent → (r c n : ℕ) → List ℕ → Lent
 with_run L r c n ws = with_samples L (put_mid (place_in L.rect L.planes r c 0) (n * L.planes) L.samples ws)
 
 -- a sample of the run that was written
-pub run_here : (L : Lent) (r c n : ℕ) (ws : List ℕ) (c' p : ℕ) → IsFull L → HasRun L.rect r c n → length ws ≡ n * L.planes → c ≤ c' → c' < c + n → p < L.planes
+pub run_here : (L : Lent) (r c n : ℕ) (ws : List ℕ) (c' p : ℕ) → IsFull L → HasRun L.rect r c (c + n) → length ws ≡ n * L.planes → c ≤ c' → c' < c + n → p < L.planes
     → sample_at (with_run L r c n ws) r c' p ≡ get_or ws ((c' - c) * L.planes + p) 0
 run_here L r c n ws c' p full run long from to plane =
     let a : ℕ = place_in L.rect L.planes r c 0 in
@@ -115,8 +115,8 @@ place_after cols planes r c n r' c' p' hc order =
     let samples : (r * cols + c + n) * planes ≤ (r' * cols + c') * planes = mul-le-mul_right planes pixel in
     omega arith
 
--- another sample stays
-pub run_elsewhere : (L : Lent) (r c n : ℕ) (ws : List ℕ) (r' c' p' : ℕ) → IsFull L → HasRun L.rect r c n → length ws ≡ n * L.planes → HasPixel L.rect r' c' → p' < L.planes → (r' ≡ r → c ≤ c' → c' < c + n → ⊥)
+-- another sample lies
+pub run_elsewhere : (L : Lent) (r c n : ℕ) (ws : List ℕ) (r' c' p' : ℕ) → IsFull L → HasRun L.rect r c (c + n) → length ws ≡ n * L.planes → HasPixel L.rect r' c' → p' < L.planes → (r' ≡ r → c ≤ c' → c' < c + n → ⊥)
     → sample_at (with_run L r c n ws) r' c' p' ≡ sample_at L r' c' p'
 run_elsewhere L r c n ws r' c' p' full run long pixel plane other =
     let w : ℕ = width L.rect in
@@ -148,21 +148,21 @@ run_elsewhere L r c n ws r' c' p' full run long pixel plane other =
     (cases_lt r' r)
 
 -- a run of a part is one of the lender
-pub run_in : (outer inner : Rect) (r c n : ℕ) → StaysIn inner outer → HasRun inner r c n → HasRun outer r c n
-run_in outer inner r c n stays run = record { top = omega arith; bottom = omega arith; left = omega arith; right = omega arith }
+pub run_in : (outer inner : Rect) (r left right : ℕ) → LiesIn inner outer → HasRun inner r left right → HasRun outer r left (left + (right - left))
+run_in outer inner r left right lies run = record { top = omega arith; bottom = omega arith; left = omega arith; order = omega arith; right = omega arith }
 
 -- a run that is written in a part leaves what is outside
-pub run_outside : (L : Lent) (rect : Rect) (r left right : ℕ) (ws : List ℕ) → IsFull L → StaysIn rect L.rect → HasRun rect r left (right - left) → left ≤ right → length ws ≡ (right - left) * L.planes
+pub run_outside : (L : Lent) (rect : Rect) (r left right : ℕ) (ws : List ℕ) → IsFull L → LiesIn rect L.rect → HasRun rect r left right → length ws ≡ (right - left) * L.planes
     → (r' c p : ℕ) → HasPixel L.rect r' c → (HasPixel rect r' c → ⊥) → p < L.planes → sample_at (with_run L r left (right - left) ws) r' c p ≡ sample_at L r' c p
-run_outside L rect r left right ws full stays run order long r' c p pixel out plane =
-    run_elsewhere L r left (right - left) ws r' c p full (run_in L.rect rect r left (right - left) stays run) long pixel plane
+run_outside L rect r left right ws full lies run long r' c p pixel out plane =
+    run_elsewhere L r left (right - left) ws r' c p full (run_in L.rect rect r left right lies run) long pixel plane
     (λ row from to. out (record { top = omega arith; bottom = omega arith; left = omega arith; right = omega arith }))
 
 -- what a run that is written in a part leaves
-pub part_run : (L : Lent) (rect : Rect) (r left right : ℕ) (ws : List ℕ) → IsFull L → StaysIn rect L.rect → HasRun rect r left (right - left) → left ≤ right → length ws ≡ (right - left) * L.planes
+pub part_run : (L : Lent) (rect : Rect) (r left right : ℕ) (ws : List ℕ) → IsFull L → LiesIn rect L.rect → HasRun rect r left right → length ws ≡ (right - left) * L.planes
     → PutsRun L (with_run L r left (right - left) ws) r left right ws
-part_run L rect r left right ws full stays run order long =
-    let whole_run : HasRun L.rect r left (right - left) = run_in L.rect rect r left (right - left) stays run in
+part_run L rect r left right ws full lies run long =
+    let whole_run : HasRun L.rect r left (left + (right - left)) = run_in L.rect rect r left right lies run in
     record {
       written = λ c p from to plane. run_here L r left (right - left) ws c p full whole_run long from (omega arith) plane;
       others = λ r' c p pixel plane other.
@@ -181,17 +181,17 @@ between_mid a k xs ys within long =
     rw back at (between-put_mid a k xs ys (a + k) within (rw back long))
 
 -- the row that was written
-pub row_written : (L : Lent) (rect : Rect) (r : ℕ) (ws : List ℕ) → IsFull L → StaysIn rect L.rect → HasRow rect r → length ws ≡ width rect * L.planes
+pub row_written : (L : Lent) (rect : Rect) (r : ℕ) (ws : List ℕ) → IsFull L → LiesIn rect L.rect → HasRow rect r → length ws ≡ width rect * L.planes
     → row_in (with_run L r rect.left (rect.right - rect.left) ws) rect r ≡ ws
-row_written L rect r ws full stays row long =
+row_written L rect r ws full lies row long =
     let a : ℕ = place_in L.rect L.planes r rect.left 0 in
-    let run : HasRun L.rect r rect.left (width rect) = record { top = omega arith; bottom = omega arith; left = omega arith; right = omega arith } in
+    let run : HasRun L.rect r rect.left (rect.left + width rect) = record { top = omega arith; bottom = omega arith; left = omega arith; order = omega arith; right = omega arith } in
     let fits : a + width rect * L.planes ≤ length L.samples = run_inside L r rect.left (width rect) full run in
     between_mid a (width rect * L.planes) L.samples ws (omega arith) long
 
 -- a sample of a row of a rectangle
-pub row_in_at : (L : Lent) (rect : Rect) (r c p : ℕ) → StaysIn rect L.rect → HasPixel rect r c → p < L.planes → get_or (row_in L rect r) ((c - rect.left) * L.planes + p) 0 ≡ sample_at L r c p
-row_in_at L rect r c p stays pixel plane =
+pub row_in_at : (L : Lent) (rect : Rect) (r c p : ℕ) → LiesIn rect L.rect → HasPixel rect r c → p < L.planes → get_or (row_in L rect r) ((c - rect.left) * L.planes + p) 0 ≡ sample_at L r c p
+row_in_at L rect r c p lies pixel plane =
     let w : ℕ = width rect in
     let j : ℕ = c - rect.left in
     let at : ℕ = place_in L.rect L.planes r rect.left 0 in
@@ -203,7 +203,7 @@ row_in_at L rect r c p stays pixel plane =
     ∙ ap (λ n. get_or L.samples n 0) there
 
 -- how long a row of a rectangle is
-pub length-row_in : (L : Lent) (rect : Rect) (r : ℕ) → IsFull L → StaysIn rect L.rect → HasRow rect r → length (row_in L rect r) ≡ width rect * L.planes
-length-row_in L rect r full stays row =
+pub length-row_in : (L : Lent) (rect : Rect) (r : ℕ) → IsFull L → LiesIn rect L.rect → HasRow rect r → length (row_in L rect r) ≡ width rect * L.planes
+length-row_in L rect r full lies row =
     let at : ℕ = place_in L.rect L.planes r rect.left 0 in
-    length-take-le (width rect * L.planes) (drop at L.samples) (omega (arith, length-drop at L.samples, part_row_inside L rect r full stays row))
+    length-take-le (width rect * L.planes) (drop at L.samples) (omega (arith, length-drop at L.samples, part_row_inside L rect r full lies row))

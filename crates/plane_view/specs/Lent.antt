@@ -1,6 +1,6 @@
 -- Lent parts of planes: what a contract sees of a view. This is this project's own; the order of samples is that of
 -- TIFF 6.0, section "Image data".
-use Rattle.std.specs.Prelude.{◌≡◌, ℕ, ◌+◌, ◌-◌, ◌*◌, ◌<◌, ◌≤◌, List, length, take, drop, slice_index}
+use Rattle.std.specs.Prelude.{◌≡◌, ℕ, ◌+◌, ◌-◌, ◌*◌, ◌<◌, ◌≤◌, List, length, slice_index}
 use Rattle.plane_view.specs.declared.Rect.{Rect}
 use Rattle.plane_view.specs.Plane.{Plane, place, sample, samples_of, crop}
 use Rattle.plane_view.specs.Rectangles.{HasPixel, height, width, area_of}
@@ -28,10 +28,6 @@ lent_of rect planes f =
 abbrev pub part_of : Lent → Rect → Lent
 part_of L rect = lent_of rect L.planes (sample_at L)
 
--- the samples of row r, the planes of a pixel side by side
-abbrev pub row_of : Lent → ℕ → List ℕ
-row_of L r = take (width L.rect * L.planes) (drop ((r - L.rect.top) * (width L.rect * L.planes)) L.samples)
-
 -- the crop of a plane to a rectangle, lent
 abbrev pub lent_crop : Plane → Rect → Lent
 lent_crop P rect = record { rect = rect; planes = P.planes; samples = (crop P rect).samples }
@@ -42,19 +38,18 @@ pub record HasRow (rect : Rect) (r : ℕ) : Type 0 where
   pub bottom : r < rect.bottom
   pub cols : rect.left ≤ rect.right
 
--- n pixels of row r, from column c on, lie in the rectangle
-pub record HasRun (rect : Rect) (r c n : ℕ) : Type 0 where
+-- the pixels of row r from one column up to another lie in the rectangle
+pub record HasRun (rect : Rect) (r from to : ℕ) : Type 0 where
   pub top : rect.top ≤ r
   pub bottom : r < rect.bottom
-  pub left : rect.left ≤ c
-  pub right : c + n ≤ rect.right
+  pub left : rect.left ≤ from
+  pub order : from ≤ to
+  pub right : to ≤ rect.right
 
--- the first rectangle goes past no edge of the second
-pub record StaysIn (inner outer : Rect) : Type 0 where
-  pub top : outer.top ≤ inner.top
-  pub bottom : inner.bottom ≤ outer.bottom
-  pub left : outer.left ≤ inner.left
-  pub right : inner.right ≤ outer.right
+-- a list has the samples of row r from column left up to column right, the planes of a pixel side by side
+pub record IsRun (xs : List ℕ) (L : Lent) (r left right : ℕ) : Type 0 where
+  pub long : length xs ≡ (right - left) * L.planes
+  pub samples : (c p : ℕ) → left ≤ c → c < right → p < L.planes → slice_index xs ((c - left) * L.planes + p) ≡ sample_at L r c p
 
 -- the part has a sample for each place
 abbrev pub IsFull : Lent → Type 0

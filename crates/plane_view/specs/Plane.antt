@@ -1,6 +1,6 @@
 -- Planes of samples, and parts of them. The order of samples is that of TIFF 6.0, section "Image data": row by row, the
 -- samples of a pixel side by side.
-use Rattle.std.specs.Prelude.{◌≡◌, ℕ, ◌+◌, ◌-◌, ◌*◌, ◌/◌, ◌%◌, ◌<◌, ◌≤◌, List, length, map, slice_index}
+use Rattle.std.specs.Prelude.{◌≡◌, ℕ, ◌+◌, ◌-◌, ◌*◌, ◌/◌, ◌%◌, List, length, map, slice_index}
 use Rattle.std.specs.List.{range_with_len}
 use Rattle.plane_view.specs.declared.Rect.{Rect}
 
@@ -37,8 +37,3 @@ IsWhole P = length P.samples ≡ P.rows * P.cols * P.planes
 abbrev pub crop : Plane → Rect → Plane
 crop P rect =
     plane_of (rect.bottom - rect.top) (rect.right - rect.left) P.planes (λ r c p. sample P (rect.top + r) (rect.left + c) p)
-
--- the two planes have the same samples at the pixels of a rectangle
-pub record AgreesOn (P Q : Plane) (rect : Rect) : Type 0 where
-  pub planes : P.planes ≡ Q.planes
-  pub samples : (r c p : ℕ) → rect.top ≤ r → r < rect.bottom → rect.left ≤ c → c < rect.right → p < P.planes → sample P r c p ≡ sample Q r c p

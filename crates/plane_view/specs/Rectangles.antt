@@ -16,13 +16,11 @@ pub record IsNonEmpty (rect : Rect) : Type 0 where
   pub rows : rect.top < rect.bottom
   pub cols : rect.left < rect.right
 
--- the edges of the first rectangle are in order, and lie between those of the second
+-- the first rectangle goes past no edge of the second
 pub record LiesIn (inner outer : Rect) : Type 0 where
   pub top : outer.top ≤ inner.top
-  pub rows : inner.top ≤ inner.bottom
   pub bottom : inner.bottom ≤ outer.bottom
   pub left : outer.left ≤ inner.left
-  pub cols : inner.left ≤ inner.right
   pub right : inner.right ≤ outer.right
 
 -- how many rows the rectangle has

@@ -4,7 +4,7 @@ use Rattle.std.specs.Borrow.{GName}
 use Rattle.plane_view.specs.declared.Rect.{Rect}
 use Rattle.plane_view.specs.declared.tiles.TileMut.{TileMut}
 use Rattle.plane_view.specs.Rectangles.{HasPixel, width}
-use Rattle.plane_view.specs.Lent.{Lent, place_in, sample_at, part_of}
+use Rattle.plane_view.specs.Lent.{Lent, place_in, sample_at}
 
 -- all that was lent: the whole slice, over the rectangle that it was lent for
 abbrev pub loan : TileMut → Lent
@@ -13,10 +13,6 @@ loan t = record { rect = t.home; planes = t.planes; samples = t.samples.now }
 -- the rectangle that the tile writes
 abbrev pub tile_rect : TileMut → Rect
 tile_rect t = t.rect
-
--- the part of what was lent that lies in that rectangle
-abbrev pub tile : TileMut → Lent
-tile t = part_of (loan t) (tile_rect t)
 
 -- which slice was lent
 abbrev pub lent_name : TileMut → GName

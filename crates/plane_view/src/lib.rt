@@ -101,8 +101,17 @@ impl Rect {
     }
 }
 
-/// How many rows, columns and planes there are. A frame's planes have 1 to 8192 rows and columns, and 1 to 3 planes:
-/// the contracts' word for it is `IsShape`.
+/// The most rows that a plane has, and the most columns.
+pub const MAX_SIDE: u32 = 8192;
+
+/// The most pixels of a frame, and the most samples that are coded together.
+pub const MAX_SAMPLES: u32 = 1 << 25;
+
+/// The most planes.
+pub const MAX_PLANES: u32 = 3;
+
+/// How many rows, columns and planes there are. A frame's planes have 1 to [`MAX_SIDE`] rows and columns, and 1 to
+/// [`MAX_PLANES`] planes: the contracts' word for it is `IsShape`.
 #[derive(Clone, Copy, Debug, PartialEq, Eq)]
 pub struct Shape {
     pub rows: u32,

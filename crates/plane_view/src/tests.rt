@@ -101,6 +101,8 @@ fn views(rt: HostRuntime) {
     let part = view.sub(rect(11, 21, 12, 22));
     assert_eq!(rt; part.at(11, 21, 0), 9);
     assert!(rt; part.row(11) == &samples[9..]);
+    assert!(rt; view.run(10, 20, 21) == &samples[..3]);
+    assert!(rt; part.run(11, 22, 22).is_empty());
     let one = [65535];
     assert_eq!(rt; View::new(rect(0, 0, 1, 1), 1, &one).at(0, 0, 0), 65535);
 }
@@ -117,6 +119,10 @@ fn tiles(rt: HostRuntime) {
     tile.focus(rect(0, 0, 1, 2));
     tile.write_row(0, |row| row.fill(8));
     assert!(rt; samples == [8, 8, 0, 1, 0, 0, 7, 4, 5, 5, 5, 5]);
+
+    let mut rows = [0; 8];
+    TileMut::new(rect(0, 0, 2, 4), 1, &mut rows).write_rows(|r, row| row.fill(r as u16));
+    assert!(rt; rows == [0, 0, 0, 0, 1, 1, 1, 1]);
 
     let mut pixel = [0; 3];
     TileMut::new(rect(7, 7, 8, 8), 3, &mut pixel).put(7, 7, 1, 9);

@@ -3,7 +3,8 @@ ghost use Rattle.std.specs.Prelude.{◌≡◌, ℕ, ◌+◌, ◌-◌, ◌*◌, �
 ghost use Rattle.std.specs.Borrow.{MutBor};
 ghost use Rattle.std.specs.Fn.{FnOnceReturnsAtMut};
 ghost use Rattle.plane_view.specs.Rectangles.{HasPixel, LiesIn, width, area_of};
-ghost use Rattle.plane_view.specs.Lent.{Lent, HasRow, HasRun, StaysIn, place_in, sample_at};
+ghost use Rattle.plane_view.specs.Rows.{IsAsLong, HasSamples, WritesRows};
+ghost use Rattle.plane_view.specs.Lent.{Lent, HasRow, HasRun, place_in, sample_at};
 
 use crate::{Rect, View};
 
@@ -17,7 +18,7 @@ pub struct TileMut<'a> {
     planes: u32,
     home: Rect,
     samples: &'a mut [u16],
-    ghost inside: { StaysIn rect home },
+    ghost inside: { LiesIn rect home },
     ghost long: { length samples.now ≡ area_of home * planes },
 }
 
@@ -90,6 +91,24 @@ impl<'a> TileMut<'a> {
         write(&mut samples[start..start + len]);
     }
 
+    /// Hands each row to `write`, from the top down: its number, and the slice of its samples.
+    pub fn write_rows<F: Fn(u32, &mut [u16])>(&mut self, write: F)
+        requires order { (tile_rect self.old).left ≤ (tile_rect self.old).right }
+        requires can { (r : ℕ) (row : MutBor (List ℕ)) → HasRow (tile_rect self.old) r → IsAsLong (tile_rect self.old) (loan self.old).planes row.now → F.pre write r row }
+        ensures loan { SameLoan self.old self.new }
+        ensures rows { (f : ℕ → ℕ → ℕ → ℕ) → WritesRows (λ r old new. F.post write r old tt new) (tile_rect self.old) (loan self.old).planes f → HasSamples f (loan self.new) (tile_rect self.old) }
+    {
+        for r in self.rect.top..self.rect.bottom {
+            self.write_row(
+                r,
+                |row: &mut [u16]|
+                    requires { (y : MutBor (List ℕ)) → y.now ≡ row.now → F.pre write r y }
+                    ensures { (y : MutBor (List ℕ)) × (z : MutBor (List ℕ)) × F.post write r y tt z × (y.now ≡ row.entry.now) × (z.now ≡ row.exit.now) }
+                { write(r, row) },
+            );
+        }
+    }
+
     /// Writes the samples of the pixels that are in both, and leaves the others.
     pub fn copy_from(&mut self, from: &View<'_>)
         requires { from.now.planes ≡ (loan self.old).planes }
@@ -99,15 +118,13 @@ impl<'a> TileMut<'a> {
         let Some(both) = self.rect.meet(&from.rect()) else {
             return;
         };
-        let part = from.sub(both);
         for r in both.top..both.bottom {
-            self.copy_run(r, both.left, both.right, part.row(r));
+            self.copy_run(r, both.left, both.right, from.run(r, both.left, both.right));
         }
     }
 
     fn copy_run(&mut self, r: u32, left: u32, right: u32, run: &[u16])
-        requires pixels { HasRun (tile_rect self.old) r left (right - left) }
-        requires order { left ≤ right }
+        requires pixels { HasRun (tile_rect self.old) r left right }
         requires long { length run.now ≡ (right - left) * (loan self.old).planes }
         ensures loan { SameLoan self.old self.new }
         ensures puts { PutsRun (loan self.old) (loan self.new) r left right run.now }
@@ -118,8 +135,7 @@ impl<'a> TileMut<'a> {
 
     /// Where the samples of row `r` from column `left` up to column `right` begin, and how many there are.
     fn run_at(&self, r: u32, left: u32, right: u32) -> (usize, usize)
-        requires pixels { HasRun (tile_rect self.now) r left (right - left) }
-        requires order { left ≤ right }
+        requires { HasRun (tile_rect self.now) r left right }
         ensures start { result.0 ≡ place_in (loan self.now).rect (loan self.now).planes r left 0 }
         ensures len { result.1 ≡ (right - left) * (loan self.now).planes }
         ensures within { result.0 + result.1 ≤ length (loan self.now).samples }

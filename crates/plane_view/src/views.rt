@@ -1,7 +1,7 @@
 //! Views: lent parts of planes, for reading.
 ghost use Rattle.std.specs.Prelude.{◌≡◌, ℕ, ◌+◌, ◌-◌, ◌*◌, ◌<◌, ◌≤◌, length};
 ghost use Rattle.plane_view.specs.Rectangles.{HasPixel, LiesIn, width, area_of};
-ghost use Rattle.plane_view.specs.Lent.{Lent, HasRow, sample_at, row_of, part_of};
+ghost use Rattle.plane_view.specs.Lent.{Lent, HasRow, HasRun, IsRun, sample_at, part_of};
 
 use crate::Rect;
 use std::marker::Model;
@@ -20,14 +20,14 @@ pub struct View<'a> {
 
 impl<'a> Model for View<'a> {
     ghost use Rattle.std.specs.Prelude.{◌≡◌, ◌*◌, length};
-    ghost use Rattle.plane_view.specs.Rectangles.{area_of};
-    ghost use Rattle.plane_view.specs.Lent.{Lent, StaysIn, part_of};
+    ghost use Rattle.plane_view.specs.Rectangles.{LiesIn, area_of};
+    ghost use Rattle.plane_view.specs.Lent.{Lent, part_of};
 
     ghost Value = { Lent };
 
     ghost view = { λ v. part_of (record { rect = v.home; planes = v.planes; samples = v.samples.now }) v.rect };
 
-    ghost invariant = { λ v. StaysIn v.rect v.home × (length v.samples.now ≡ area_of v.home * v.planes) };
+    ghost invariant = { λ v. LiesIn v.rect v.home × (length v.samples.now ≡ area_of v.home * v.planes) };
 }
 
 impl<'a> View<'a> {
@@ -72,14 +72,20 @@ impl<'a> View<'a> {
     /// The samples of row `r`, the planes of a pixel side by side.
     pub fn row(&self, r: u32) -> &[u16]
         requires { HasRow self.now.rect r }
-        ensures row { result.now ≡ row_of self.now r }
-        ensures len { length result.now ≡ width self.now.rect * self.now.planes }
+        ensures { IsRun result.now self.now r self.now.rect.left self.now.rect.right }
+    {
+        self.run(r, self.rect.left, self.rect.right)
+    }
+
+    /// The samples of row `r` from column `left` up to column `right`, the planes of a pixel side by side.
+    pub fn run(&self, r: u32, left: u32, right: u32) -> &[u16]
+        requires { HasRun self.now.rect r left right }
+        ensures { IsRun result.now self.now r left right }
     {
         let cols = (self.home.right - self.home.left) as usize;
-        let pixel = (r - self.home.top) as usize * cols
-            + (self.rect.left - self.home.left) as usize;
+        let pixel = (r - self.home.top) as usize * cols + (left - self.home.left) as usize;
         let start = pixel * self.planes as usize;
-        let len = (self.rect.right - self.rect.left) as usize * self.planes as usize;
+        let len = (right - left) as usize * self.planes as usize;
         &self.samples[start..start + len]
     }
 

@@ -1,10 +1,9 @@
-use Rattle.std.proofs.Common.{◌≡◌, ℕ, ◌+◌, ◌-◌, ◌*◌, ◌<◌, ◌≤◌, ⊎_elim, List, get_or, refl, sym, ◌∙◌, ap, subst, arith}
+use Rattle.std.proofs.Common.{◌≡◌, ℕ, ◌+◌, ◌-◌, ◌*◌, ◌<◌, ◌≤◌, ⊎_elim, get_or, refl, sym, ◌∙◌, ap, subst, arith}
 use Rattle.std.proofs.lemmas.Bool.{cases_lt}
 use Rattle.plane_view.specs.declared.Rect.{Rect}
 use Rattle.plane_view.specs.Rectangles.{HasPixel, width}
-use Rattle.plane_view.specs.Lent.{Lent, HasRow, sample_at, row_of, part_of}
+use Rattle.plane_view.specs.Lent.{Lent, sample_at}
 use Rattle.plane_view.specs.Tiles.{loan}
-use Rattle.plane_view.proofs.Parts.{length-part, length-row, row_at, part_at}
 use Rattle.plane_view.proofs.Writes.{pixel_in}
 use Rattle.plane_view.proofs.Loans.{same_loan, then_loan}
 use Rattle.plane_view.proofs.tiles.TileMut.copy_from.Goals as goal
@@ -21,19 +20,13 @@ loop-r-init c =
 
 pub copy_run-requires-clause-long : goal.copy_run-requires-clause-long
 copy_run-requires-clause-long c =
-    let part : Lent = part_of c.args.from.now c.in-Some.both in
-    let row : c.row.result.now ≡ row_of part c.loop-r.r = c.row.ensures.row ∙ ap (λ (V : Lent). row_of V c.loop-r.r) c.sub-part.ensures in
     let planes : c.args.from.now.planes ≡ c.loop-r.self.planes = c.requires ∙ sym c.loop-r.invariant.same.planes in
-    let some = c.in-Some.ensures.some in
-    let has : HasRow c.in-Some.both c.loop-r.r = record { top = omega arith; bottom = omega arith; cols = omega arith } in
-    rw row (length-row part c.loop-r.r (length-part c.args.from.now c.in-Some.both) has ∙ ap (λ n. width c.in-Some.both * n) planes)
+    c.run.ensures.long ∙ ap (λ n. width c.in-Some.both * n) planes
 
 pub loop-r-preserved : goal.loop-r-preserved
 loop-r-preserved c =
     let V : Lent = c.args.from.now in
     let both : Rect = c.in-Some.both in
-    let part : Lent = part_of V both in
-    let row : c.row.result.now ≡ row_of part c.loop-r.r = c.row.ensures.row ∙ ap (λ (V : Lent). row_of V c.loop-r.r) c.sub-part.ensures in
     let planes : c.args.from.now.planes ≡ c.loop-r.self.planes = c.requires ∙ sym c.loop-r.invariant.same.planes in
     let now_home : (r c' : ℕ) → HasPixel c.args.self.now.home r c' → HasPixel c.loop-r.self.home r c' =
     λ r c' inside. subst (λ (x : Rect). HasPixel x r c') (sym c.loop-r.invariant.same.home) inside in
@@ -49,14 +42,11 @@ loop-r-preserved c =
           ∙ c.loop-r.invariant.copied r c' p mine theirs earlier plane)
           (λ (last : c.loop-r.r ≤ r).
           let is : r ≡ c.loop-r.r = omega arith in
-          let here : HasPixel both c.loop-r.r c' = subst (λ (i : ℕ). HasPixel both i c') is shared in
           let in_view : p < V.planes = subst (λ (n : ℕ). p < n) (sym c.requires) plane in
           ap (λ i. sample_at (loan c.copy_run.new.self) i c' p) is
           ∙ c.copy_run.ensures.puts.written c' p shared.left shared.right (now_plane p plane)
-          ∙ ap (λ n. get_or c.row.result.now ((c' - both.left) * n + p) 0) (sym planes)
-          ∙ ap (λ (xs : List ℕ). get_or xs ((c' - both.left) * V.planes + p) 0) row
-          ∙ row_at part c.loop-r.r c' p here in_view
-          ∙ part_at V both c.loop-r.r c' p here in_view
+          ∙ ap (λ n. get_or c.run.result.now ((c' - both.left) * n + p) 0) (sym planes)
+          ∙ c.run.ensures.samples c' p shared.left shared.right in_view
           ∙ ap (λ i. sample_at V i c' p) (sym is))
           (cases_lt r c.loop-r.r);
       others = λ r c' p inside out plane.

@@ -17,7 +17,7 @@ returns-clause-loan c =
       rect = refl;
       outside = λ r' c' p pixel out plane.
           rw (c.copy_from_slice.ensures.after, len, c.run_at-start.ensures.start)
-          (run_outside (loan t) t.rect c.args.r c.args.left c.args.right c.args.run.now t.long t.inside c.requires.pixels c.requires.order c.requires.long r' c' p pixel out plane);
+          (run_outside (loan t) t.rect c.args.r c.args.left c.args.right c.args.run.now t.long t.inside c.requires.pixels c.requires.long r' c' p pixel out plane);
     }
 
 pub returns-clause-puts : goal.returns-clause-puts
@@ -28,4 +28,4 @@ returns-clause-puts c =
     let same : put_mid (place_in t.home t.planes c.args.r c.args.left 0) (n * t.planes) t.samples.now c.args.run.now ≡ put_mid c.run_at-start.result.0 (c.run_at-start.result.0 + c.run_at-start.result.1 - c.run_at-start.result.0) t.samples.now c.copy_from_slice.new.self =
     rw (len, c.run_at-start.ensures.start, c.copy_from_slice.ensures.after) refl in
     subst (λ (xs : List ℕ). PutsRun (loan t) (with_samples (loan t) xs) c.args.r c.args.left c.args.right c.args.run.now) same
-    (part_run (loan t) t.rect c.args.r c.args.left c.args.right c.args.run.now t.long t.inside c.requires.pixels c.requires.order c.requires.long)
+    (part_run (loan t) t.rect c.args.r c.args.left c.args.right c.args.run.now t.long t.inside c.requires.pixels c.requires.long)

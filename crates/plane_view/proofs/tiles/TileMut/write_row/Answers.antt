@@ -28,7 +28,7 @@ returns-clause-loan g c =
     let len : start + c.run_at-start.result.1 - start ≡ width t.rect * t.planes = omega arith in
     let long : length ws ≡ width t.rect * t.planes =
     c.write.auto.arg2 ∙ length-take-le _ (drop start t.samples.now) (omega (arith, length-drop start t.samples.now)) ∙ len in
-    let run : HasRun t.rect c.args.r t.rect.left (width t.rect) = record { top = c.requires.row.top; bottom = c.requires.row.bottom; left = omega arith; right = omega (arith, c.requires.row.cols) } in
+    let run : HasRun t.rect c.args.r t.rect.left t.rect.right = record { top = c.requires.row.top; bottom = c.requires.row.bottom; left = omega arith; order = c.requires.row.cols; right = omega arith } in
     record {
       slice = refl;
       home = refl;
@@ -36,7 +36,7 @@ returns-clause-loan g c =
       rect = refl;
       outside = λ r' c' p pixel out plane.
           rw (len, c.run_at-start.ensures.start)
-          (run_outside (loan t) t.rect c.args.r t.rect.left t.rect.right ws t.long t.inside run c.requires.row.cols long r' c' p pixel out plane);
+          (run_outside (loan t) t.rect c.args.r t.rect.left t.rect.right ws t.long t.inside run long r' c' p pixel out plane);
     }
 
 pub returns-clause-row : goal.returns-clause-row
@@ -65,10 +65,10 @@ returns-clause-others g c =
     let len : taken ≡ width t.rect * t.planes = omega arith in
     let long : length ws ≡ width t.rect * t.planes =
     c.write.auto.arg2 ∙ length-take-le _ (drop start t.samples.now) (omega (arith, length-drop start t.samples.now)) ∙ len in
-    let run : HasRun t.rect c.args.r t.rect.left (width t.rect) = record { top = c.requires.row.top; bottom = c.requires.row.bottom; left = omega arith; right = omega (arith, c.requires.row.cols) } in
+    let run : HasRun t.rect c.args.r t.rect.left t.rect.right = record { top = c.requires.row.top; bottom = c.requires.row.bottom; left = omega arith; order = c.requires.row.cols; right = omega arith } in
     let same : put_mid (place_in t.home t.planes c.args.r t.rect.left 0) (width t.rect * t.planes) t.samples.now ws ≡ put_mid start taken t.samples.now ws =
     rw (len, c.run_at-start.ensures.start) refl in
     let puts : PutsRun (loan t) (with_samples (loan t) (put_mid start taken t.samples.now ws)) c.args.r t.rect.left t.rect.right ws =
     subst (λ (xs : List ℕ). PutsRun (loan t) (with_samples (loan t) xs) c.args.r t.rect.left t.rect.right ws) same
-    (part_run (loan t) t.rect c.args.r t.rect.left t.rect.right ws t.long t.inside run c.requires.row.cols long) in
+    (part_run (loan t) t.rect c.args.r t.rect.left t.rect.right ws t.long t.inside run long) in
     λ r' c' p pixel plane other. puts.others r' c' p pixel plane (λ row from to. other row (record { top = omega arith; bottom = omega arith; left = from; right = to }))
