@@ -42,7 +42,7 @@ pixels_are_cells n some few =
           let within : k < n = is.0 in
           subst P is.1 (record {
             some = record { rows = omega arith; cols = omega arith };
-            inside = record { top = omega arith; rows = omega arith; bottom = omega arith; left = omega arith; cols = omega arith; right = omega arith };
+            inside = record { top = omega arith; bottom = omega arith; left = omega arith; right = omega arith };
           });
       covered = λ r c hr hc. (c, pixel c, pixel_at n c (omega arith), record { top = omega arith; bottom = hr; left = omega arith; right = omega arith });
       apart = λ i k one other ei ek r c in_one in_other.
