@@ -1,196 +1,173 @@
-// The files, the input and the output of the machine. Nothing is told of their bytes.
+// Files that are opened by their names, as those of the machine.
 
-ghost use Rattle.std.specs.Prelude.{◌≡◌, ℕ, ◌<◌, ◌≤◌, List, length, None, IfOk, is_err, if◌then◌else◌, ⊤};
+ghost use Rattle.std.specs.Prelude.{◌≡◌, ℕ, ◌<◌, ◌≤◌, List, length, Option, None, IfOk, IfSome, OnOk, OnErr, is_err, if◌then◌else◌};
+ghost use Rattle.raw_io.specs.Outside.{ReadsAt};
 ghost use Rattle.raw_io.specs.Memory.{one_more};
+ghost use Rattle.raw_io.specs.Streams.{OpenedFiles, Holds};
 
-use crate::{Failed, Files, Sink, Source};
+use crate::tried::{counted, read_some};
+use crate::{Failed, Files};
 use std::fs::File;
-use std::io::{ErrorKind, Read, Seek, SeekFrom, Write};
+use std::io::{Read, Seek, SeekFrom};
 use std::marker::Model;
 use std::rt;
 
-// How often a call that a signal interrupted is tried.
-const TRIES: u32 = 1 << 16;
+/// Opens files by their names. Each runtime that reaches files does, and tells nothing of their bytes.
+pub trait Opener {
+    /// A file that is open for reading.
+    type File: Read + Seek + Drop;
 
-/// The files of the machine, by their paths. Contracts see how often a read failed.
-#[derive(Drop)]
-pub struct HostFiles<R> {
-    host: R,
-    faults: u64,
+    /// The contents under a name, where they are told.
+    ghost told: { Self → List ℕ → Option (List ℕ) } = { λ _ _. None };
+
+    /// Opens the file of this name.
+    fn open(&self, name: &str) -> Result<Self::File, Failed>
+        ensures { IfOk result (λ file. IfSome (told self.now name.now)
+            (Holds Self.File.Read.remaining Self.File.Seek.stream_position Self.File.Seek.stream_bytes file)) };
 }
 
-impl<R> Model for HostFiles<R> {
-    ghost Value = { ℕ };
+impl<R: rt::Files> Opener for R {
+    type File = R::File;
 
-    ghost view = { λ s. s.faults };
-}
-
-impl<R: rt::Files> HostFiles<R> {
-    /// The files that this runtime reaches.
-    pub fn new(host: R) -> Self
-        ensures { result ≡ 0 }
-    {
-        HostFiles { host, faults: 0 }
+    fn open(&self, name: &str) -> Result<R::File, Failed> {
+        match File::open(self, name) {
+            Ok(file) => Ok(file),
+            Err(_) => Err(Failed),
+        }
     }
 }
 
-impl<R: rt::Files> Files for HostFiles<R> {
-    ghost told = { λ _ _. None };
+/// Files over an opener, as the runtime, whose names are paths. It tells what the opener tells: nothing over the
+/// machine's own files.
+#[derive(Drop)]
+pub struct HostFiles<O> {
+    opener: O,
+    faults: u64,
+}
 
-    ghost faults = { λ s _. s };
+impl<O> Model for HostFiles<O> {
+    ghost Value = { OpenedFiles O };
+
+    ghost view = { λ s. record { opener = s.opener; faults = s.faults } };
+}
+
+impl<O: Opener> HostFiles<O> {
+    /// The files that this opener reaches.
+    pub fn new(opener: O) -> Self
+        ensures { result ≡ record { opener = opener; faults = 0 } }
+    {
+        HostFiles { opener, faults: 0 }
+    }
+}
+
+impl<O: Opener> Files for HostFiles<O> {
+    ghost told = { λ s name. O.told s.opener name };
+
+    ghost faults = { λ s _. s.faults };
 
     fn read(&mut self, name: &str, at: u64, into: &mut [u8]) -> Result<usize, Failed>
-        ensures counts { (other : List ℕ) → self.old ≤ self.new }
+        ensures contents { (other : List ℕ) → O.told self.new.opener other ≡ O.told self.old.opener other }
+        ensures counts { (other : List ℕ) → self.old.faults ≤ self.new.faults }
         ensures within { IfOk result (λ n. n ≤ length into.old) }
-        ensures count { self.new ≡ (if is_err result then one_more self.old else self.old) }
+        ensures bytes { IfOk result (λ n. IfSome (O.told self.old.opener name.now) (λ bytes. ReadsAt bytes at into.new n)) }
+        ensures count { self.new.faults ≡ (if is_err result then one_more self.old.faults else self.old.faults) }
     {
-        let outcome = read_file(&self.host, name, at, into);
+        let outcome = read_file(&self.opener, name, at, into);
         counted(&mut self.faults, outcome)
     }
 }
 
-// Counts a failed call.
-fn counted(faults: &mut u64, outcome: Result<usize, Failed>) -> Result<usize, Failed>
-    ensures same { result ≡ outcome }
-    ensures count { faults.new ≡ (if is_err outcome then one_more faults.old else faults.old) }
-    ensures grows { faults.old ≤ faults.new }
-{
-    if outcome.is_err() {
-        *faults = faults.saturating_add(1);
-    }
-    outcome
-}
-
 // Opens the file for this one read, so that no file stays open between two.
-fn read_file<R: rt::Files>(host: &R, name: &str, at: u64, into: &mut [u8]) -> Result<usize, Failed>
-    ensures { IfOk result (λ n. n ≤ length into.new) }
+fn read_file<O: Opener>(opener: &O, name: &str, at: u64, into: &mut [u8]) -> Result<usize, Failed>
+    ensures within { IfOk result (λ n. n ≤ length into.new) }
+    ensures bytes { IfOk result (λ n. IfSome (O.told opener.now name.now) (λ bytes. ReadsAt bytes at into.new n)) }
 {
-    let Ok(mut file) = File::open(host, name) else {
-        return Err(Failed);
-    };
+    let mut file = opener.open(name)?;
     if file.seek(SeekFrom::Start(at)).is_err() {
         return Err(Failed);
     }
     read_some(&mut file, into)
 }
 
-fn read_some<R: Read>(from: &mut R, into: &mut [u8]) -> Result<usize, Failed>
-    ensures { IfOk result (λ n. n ≤ length into.new) }
-{
-    for _ in 0..TRIES {
-        match from.read(into) {
-            Ok(count) => return Ok(count),
-            Err(e) if e.kind() == ErrorKind::Interrupted => {}
-            Err(_) => return Err(Failed),
-        }
-    }
-    Err(Failed)
-}
-
-/// A source over a reader of the machine, as standard input. Contracts see how often a read failed.
-#[derive(Drop)]
-pub struct StdSource<R> {
-    input: R,
-    faults: u64,
-}
-
-impl<R> Model for StdSource<R> {
-    ghost Value = { ℕ };
-
-    ghost view = { λ s. s.faults };
-}
-
-impl<R: Read> StdSource<R> {
-    /// What this reader gives. It is read directly, with no bytes held back.
-    pub fn new(input: R) -> Self
-        ensures { result ≡ 0 }
-    {
-        StdSource { input, faults: 0 }
-    }
-}
-
-impl<R: Read> Source for StdSource<R> {
-    ghost left = { λ _. None };
-
-    ghost faults = { λ s. s };
-
-    fn read(&mut self, into: &mut [u8]) -> Result<usize, Failed>
-        ensures counts { self.old ≤ self.new }
-        ensures within { IfOk result (λ n. n ≤ length into.old) }
-        ensures count { self.new ≡ (if is_err result then one_more self.old else self.old) }
-    {
-        let outcome = read_some(&mut self.input, into);
-        counted(&mut self.faults, outcome)
-    }
-}
-
-/// A sink over a writer of the machine, as standard output. Contracts see how often a write failed.
-#[derive(Drop)]
-pub struct StdSink<W> {
-    output: W,
-    faults: u64,
-}
-
-impl<W> Model for StdSink<W> {
-    ghost Value = { ℕ };
-
-    ghost view = { λ s. s.faults };
-}
-
-impl<W: Write> StdSink<W> {
-    /// What this writer takes. It is written at each call, and flushed, so that no byte waits for the end.
-    pub fn new(output: W) -> Self
-        ensures { result ≡ 0 }
-    {
-        StdSink { output, faults: 0 }
-    }
-}
-
-impl<W: Write> Sink for StdSink<W> {
-    ghost stands_for = { λ _ _. ⊤ };
-
-    ghost faults = { λ s. s };
-
-    fn write(&mut self, from: &[u8]) -> Result<usize, Failed>
-        ensures counts { self.old ≤ self.new }
-        ensures within { IfOk result (λ n. n ≤ length from.now) }
-        ensures progress { IfOk result (λ n. 0 < length from.now → 0 < n) }
-        ensures count { self.new ≡ (if is_err result then one_more self.old else self.old) }
-    {
-        let outcome = write_some(&mut self.output, from);
-        counted(&mut self.faults, outcome)
-    }
-}
-
-fn write_some<W: Write>(to: &mut W, from: &[u8]) -> Result<usize, Failed>
-    ensures within { IfOk result (λ n. n ≤ length from.now) }
-    ensures progress { IfOk result (λ n. 0 < length from.now → 0 < n) }
-{
-    for _ in 0..TRIES {
-        match to.write(from) {
-            Ok(count) if count > 0 || from.is_empty() => return flushed(to, count),
-            Err(e) if e.kind() == ErrorKind::Interrupted => {}
-            _ => return Err(Failed),
-        }
-    }
-    Err(Failed)
-}
-
-fn flushed<W: Write>(to: &mut W, count: usize) -> Result<usize, Failed>
-    ensures { IfOk result (λ n. n ≡ count) }
-{
-    match to.flush() {
-        Ok(()) => Ok(count),
-        Err(_) => Err(Failed),
-    }
-}
-
 #[cfg(test)]
 mod tests {
     use super::*;
-    use crate::{read_all, write_all};
+    use crate::faults::Faults;
+    use crate::read_all;
+    use std::io::Cursor;
+    use std::io::ErrorKind::{BrokenPipe, Interrupted};
     use std::test::Fail;
-    use std::{fs, process};
+    use std::{fs, io, process};
+
+    // One file under every name, whose seeks and reads fail like this each time that it is open.
+    #[derive(Clone, Copy)]
+    struct OneFile<'a> {
+        bytes: &'a [u8],
+        seeks: Faults<'a>,
+        reads: Faults<'a>,
+    }
+
+    #[derive(Drop)]
+    struct FaultyFile<'a> {
+        bytes: Cursor<&'a [u8]>,
+        seeks: Faults<'a>,
+        reads: Faults<'a>,
+    }
+
+    impl<'a> Opener for OneFile<'a> {
+        type File = FaultyFile<'a>;
+
+        ghost use Rattle.std.specs.Prelude.{Some};
+
+        ghost told = { λ s _. Some s.bytes.now };
+
+        fn open(&self, _name: &str) -> Result<FaultyFile<'a>, Failed> {
+            Ok(FaultyFile {
+                bytes: Cursor::new(self.bytes),
+                seeks: self.seeks,
+                reads: self.reads,
+            })
+        }
+    }
+
+    impl Read for FaultyFile<'_> {
+        ghost remaining = { λ s. ⟦<Cursor<&'static [u8]> as Read>⟧.remaining s.bytes };
+
+        fn read(&mut self, buf: &mut [u8]) -> io::Result<usize> {
+            self.reads.next()?;
+            self.bytes.read(buf)
+        }
+    }
+
+    impl Seek for FaultyFile<'_> {
+        ghost stream_position = { λ s. ⟦<Cursor<&'static [u8]> as Seek>⟧.stream_position s.bytes };
+
+        ghost stream_bytes = { λ s. ⟦<Cursor<&'static [u8]> as Seek>⟧.stream_bytes s.bytes };
+
+        fn seek(&mut self, to: SeekFrom) -> io::Result<u64> {
+            self.seeks.next()?;
+            self.bytes.seek(to)
+        }
+    }
+
+    #[test]
+    fn a_failed_seek_or_read_is_no_end(rt: HostRuntime) -> Result<(), Fail> {
+        for (seeks, reads, answer) in [
+            ([].as_slice(), [].as_slice(), Ok(2)),
+            (&[], &[Interrupted], Ok(2)),
+            (&[BrokenPipe], &[], Err(Failed)),
+            (&[], &[BrokenPipe], Err(Failed)),
+        ] {
+            let mut files = HostFiles::new(OneFile {
+                bytes: b"123",
+                seeks: Faults(seeks),
+                reads: Faults(reads),
+            });
+            let mut into = [0u8; 3];
+            assert_eq!(rt; files.read("any", 1, &mut into), answer);
+        }
+        Ok(())
+    }
 
     #[test]
     fn reads_a_file_from_an_offset(rt: HostRuntime) -> Result<(), Fail> {
@@ -212,21 +189,6 @@ mod tests {
         fs::remove_file(&rt, path.as_str())?;
         assert_eq!(rt; whole?.as_slice(), b"12345".as_slice());
         assert_eq!(rt; files.read(&path, 0, &mut into), Err(Failed));
-        Ok(())
-    }
-
-    #[test]
-    fn passes_bytes_on(rt: HostRuntime) -> Result<(), Fail> {
-        let mut source = StdSource::new(b"123".as_slice());
-        let mut into = [0u8; 2];
-        assert_eq!(rt; source.read(&mut into), Ok(2));
-        assert_eq!(rt; source.read(&mut into), Ok(1));
-        assert_eq!(rt; into, *b"32");
-        assert_eq!(rt; source.read(&mut into), Ok(0));
-        let mut out = [0u8; 2];
-        let mut sink = StdSink::new(out.as_mut_slice());
-        assert_eq!(rt; write_all(&mut sink, b"12").is_ok(), true);
-        assert_eq!(rt; sink.write(b"3"), Err(Failed));
         Ok(())
     }
 }

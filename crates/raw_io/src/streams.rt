@@ -1,0 +1,253 @@
+// A source over a reader of std, and a sink over a writer. They tell what these tell of their bytes.
+
+ghost use Rattle.std.specs.Prelude.{◌≡◌, ℕ, ◌<◌, ◌≤◌, List, [], length, take, Some, IfOk, OnOk, OnErr, IfSome, is_err, if◌then◌else◌};
+ghost use Rattle.std.specs.Io.KnownBytes.{Keeps, WriteAppends};
+ghost use Rattle.raw_io.specs.Outside.{Takes, Appends};
+ghost use Rattle.raw_io.specs.Memory.{one_more};
+ghost use Rattle.raw_io.specs.Streams.{ReaderSource, WriterSink};
+
+use crate::tried::{counted, flush, read_some, write_some};
+use crate::{Failed, Sink, Source};
+use std::io::{Read, Write};
+use std::marker::Model;
+
+/// A source over a reader, as standard input. It tells what the reader tells: nothing over the machine's own streams,
+/// and all over bytes in memory.
+#[derive(Drop)]
+pub struct StdSource<R: Read> {
+    input: R,
+    faults: u64,
+}
+
+impl<R: Read> Model for StdSource<R> {
+    ghost Value = { ReaderSource };
+
+    ghost view = { λ s. record { left = R.remaining s.input; faults = s.faults } };
+}
+
+impl<R: Read> StdSource<R> {
+    /// What this reader gives. It is read directly, with no bytes held back.
+    pub fn new(input: R) -> Self
+        ensures { result ≡ record { left = R.remaining input; faults = 0 } }
+    {
+        StdSource { input, faults: 0 }
+    }
+}
+
+impl<R: Read> Source for StdSource<R> {
+    ghost left = { λ s. s.left };
+
+    ghost faults = { λ s. s.faults };
+
+    fn read(&mut self, into: &mut [u8]) -> Result<usize, Failed>
+        ensures counts { self.old.faults ≤ self.new.faults }
+        ensures within { IfOk result (λ n. n ≤ length into.old) }
+        ensures taken { IfOk result (λ n. Takes self.old.left self.new.left (take n into.new)) }
+        ensures end { IfOk result (λ n. n ≡ 0 → 0 < length into.old → IfSome self.old.left (λ bytes. length bytes ≡ 0)) }
+        ensures kept { OnErr result (Takes self.old.left self.new.left []) }
+        ensures count { self.new.faults ≡ (if is_err result then one_more self.old.faults else self.old.faults) }
+    {
+        let outcome = read_some(&mut self.input, into);
+        counted(&mut self.faults, outcome)
+    }
+}
+
+/// A sink over a writer, as standard output. It tells what the writer tells: nothing over the machine's own streams,
+/// and all over a vector.
+///
+/// Each write is flushed, so that no byte waits for the end. Bytes that the writer took stay taken where the flush
+/// after them fails. So that write is still answered with their number, and the flush is tried again at the next call,
+/// which fails if it fails again.
+#[derive(Drop)]
+pub struct StdSink<W: Write> {
+    output: W,
+    unflushed: bool,
+    faults: u64,
+}
+
+impl<W: Write> Model for StdSink<W> {
+    ghost Value = { WriterSink };
+
+    ghost view = { λ s. record { held = W.contents s.output; faults = s.faults } };
+}
+
+impl<W: Write> StdSink<W> {
+    /// What this writer takes.
+    pub fn new(output: W) -> Self
+        ensures { result ≡ record { held = W.contents output; faults = 0 } }
+    {
+        StdSink {
+            output,
+            unflushed: false,
+            faults: 0,
+        }
+    }
+
+    /// Flushes what a failed flush has left. After the last write this tells whether all bytes went out.
+    pub fn flush(&mut self) -> Result<(), Failed>
+        ensures kept { Keeps self.old.held self.new.held }
+        ensures count { self.new.faults ≡ (if is_err result then one_more self.old.faults else self.old.faults) }
+    {
+        let outcome = flush_rest(&mut self.output, &mut self.unflushed);
+        counted(&mut self.faults, outcome)
+    }
+}
+
+impl<W: Write> Sink for StdSink<W> {
+    ghost stands_for = { λ s list. s.held ≡ Some list };
+
+    ghost faults = { λ s. s.faults };
+
+    fn write(&mut self, from: &[u8]) -> Result<usize, Failed>
+        ensures counts { self.old.faults ≤ self.new.faults }
+        ensures within { IfOk result (λ n. n ≤ length from.now) }
+        ensures progress { IfOk result (λ n. 0 < length from.now → 0 < n) }
+        ensures appended { IfOk result (λ n. Appends (λ s list. s.held ≡ Some list) self.old self.new (take n from.now)) }
+        ensures kept { OnErr result ((list : List ℕ) → self.old.held ≡ Some list → self.new.held ≡ Some list) }
+        ensures count { self.new.faults ≡ (if is_err result then one_more self.old.faults else self.old.faults) }
+    {
+        let outcome = write_flushed(&mut self.output, &mut self.unflushed, from);
+        counted(&mut self.faults, outcome)
+    }
+}
+
+fn flush_rest<W: Write>(to: &mut W, unflushed: &mut bool) -> Result<(), Failed>
+    ensures { Keeps (W.contents to.old) (W.contents to.new) }
+{
+    if *unflushed {
+        flush(to)?;
+        *unflushed = false;
+    }
+    Ok(())
+}
+
+fn write_flushed<W: Write>(to: &mut W, unflushed: &mut bool, from: &[u8]) -> Result<usize, Failed>
+    ensures within { IfOk result (λ n. n ≤ length from.now) }
+    ensures progress { IfOk result (λ n. 0 < length from.now → 0 < n) }
+    ensures bytes { WriteAppends (W.contents to.old) (W.contents to.new) result from.now }
+{
+    flush_rest(to, unflushed)?;
+    let count = write_some(to, from)?;
+    *unflushed = flush(to).is_err();
+    Ok(count)
+}
+
+#[cfg(test)]
+mod tests {
+    use super::*;
+    use crate::faults::Faults;
+    use crate::{ReadFault, WriteFault, read_source, write_all};
+    use std::io;
+    use std::io::ErrorKind::{BrokenPipe, Interrupted};
+    use std::test::Fail;
+
+    #[derive(Drop)]
+    struct FaultyReader<'a> {
+        bytes: &'a [u8],
+        faults: Faults<'a>,
+    }
+
+    impl Read for FaultyReader<'_> {
+        fn read(&mut self, buf: &mut [u8]) -> io::Result<usize> {
+            self.faults.next()?;
+            self.bytes.read(buf)
+        }
+    }
+
+    #[derive(Drop)]
+    struct FaultyWriter<'a> {
+        bytes: Vec<u8>,
+        writes: Faults<'a>,
+        flushes: Faults<'a>,
+    }
+
+    impl Write for FaultyWriter<'_> {
+        fn write(&mut self, buf: &[u8]) -> io::Result<usize> {
+            self.writes.next()?;
+            self.bytes.write(&buf[..buf.len().min(2)])
+        }
+
+        fn flush(&mut self) -> io::Result<()> {
+            self.flushes.next()
+        }
+    }
+
+    #[test]
+    fn passes_bytes_on(rt: HostRuntime) -> Result<(), Fail> {
+        let mut source = StdSource::new(b"123".as_slice());
+        let mut into = [0u8; 2];
+        for (answer, bytes) in [(Ok(2), *b"12"), (Ok(1), *b"32"), (Ok(0), *b"32")] {
+            assert_eq!(rt; source.read(&mut into), answer);
+            assert_eq!(rt; into, bytes);
+        }
+        let mut held = Vec::new(rt.alloc());
+        assert_eq!(rt; write_all(&mut StdSink::new(&mut held), b"12"), Ok(()));
+        assert_eq!(rt; held.as_slice(), b"12".as_slice());
+        let mut room = [0u8; 2];
+        let full = write_all(&mut StdSink::new(room.as_mut_slice()), b"123");
+        assert_eq!(rt; full, Err(WriteFault { written: 2 }));
+        Ok(())
+    }
+
+    #[test]
+    fn a_failed_read_is_no_end(rt: HostRuntime) -> Result<(), Fail> {
+        for (faults, wanted, len) in [
+            ([].as_slice(), Ok(()), 3),
+            ([Interrupted, Interrupted].as_slice(), Ok(()), 3),
+            ([BrokenPipe].as_slice(), Err(ReadFault::Failed), 0),
+            (
+                [Interrupted, BrokenPipe].as_slice(),
+                Err(ReadFault::Failed),
+                0,
+            ),
+        ] {
+            let mut source = StdSource::new(FaultyReader {
+                bytes: b"123",
+                faults: Faults(faults),
+            });
+            let mut bytes = Vec::new(rt.alloc());
+            assert_eq!(rt; read_source(&mut source, &mut bytes, 9), wanted);
+            assert_eq!(rt; bytes.len(), len);
+        }
+        Ok(())
+    }
+
+    #[test]
+    fn a_write_counts_what_went_out(rt: HostRuntime) -> Result<(), Fail> {
+        for (writes, flushes, wanted, held) in [
+            ([].as_slice(), [].as_slice(), Ok(()), b"123".as_slice()),
+            (&[Interrupted], &[Interrupted], Ok(()), b"123"),
+            (&[BrokenPipe], &[], Err(WriteFault { written: 0 }), b""),
+            // A flush that goes well at the second try, and one that doesn't.
+            (&[], &[BrokenPipe], Ok(()), b"123"),
+            (
+                &[],
+                &[BrokenPipe, BrokenPipe],
+                Err(WriteFault { written: 2 }),
+                b"12",
+            ),
+        ] {
+            let mut writer = FaultyWriter {
+                bytes: Vec::new(rt.alloc()),
+                writes: Faults(writes),
+                flushes: Faults(flushes),
+            };
+            assert_eq!(rt; write_all(&mut StdSink::new(&mut writer), b"123"), wanted);
+            assert_eq!(rt; writer.bytes.as_slice(), held);
+        }
+        Ok(())
+    }
+
+    #[test]
+    fn a_flush_tells_whether_all_went_out(rt: HostRuntime) -> Result<(), Fail> {
+        let mut sink = StdSink::new(FaultyWriter {
+            bytes: Vec::new(rt.alloc()),
+            writes: Faults(&[]),
+            flushes: Faults(&[BrokenPipe, BrokenPipe]),
+        });
+        assert_eq!(rt; sink.write(b"1"), Ok(1));
+        assert_eq!(rt; sink.flush(), Err(Failed));
+        assert_eq!(rt; sink.flush(), Ok(()));
+        Ok(())
+    }
+}
