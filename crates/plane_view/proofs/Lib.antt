@@ -3,6 +3,7 @@ pub mod Crops
 pub mod Limits
 pub mod Loans
 pub mod Parts
+pub mod Pixels
 pub mod Reflections
 pub mod Samples
 pub mod Writes

@@ -1,5 +1,5 @@
 -- Rectangles of pixels: half-open, rows top to bottom, columns left to right. This is this project's own.
-use Rattle.std.specs.Prelude.{ℕ, ◌+◌, ◌-◌, ◌*◌, ◌<◌, ◌≤◌}
+use Rattle.std.specs.Prelude.{ℕ, ◌+◌, ◌-◌, ◌*◌, ◌<◌, ◌≤◌, nat_le, nat_lt, Bool, ◌&&◌}
 use Rattle.std.proofs.Common.{min, max}
 use Rattle.plane_view.specs.declared.Rect.{Rect}
 use Rattle.plane_view.specs.Plane.{Plane}
@@ -10,6 +10,10 @@ pub record HasPixel (rect : Rect) (r c : ℕ) : Type 0 where
   pub bottom : r < rect.bottom
   pub left : rect.left ≤ c
   pub right : c < rect.right
+
+-- whether the pixel at row r, column c is in the rectangle
+abbrev pub has_pixel : (r c : ℕ) → Rect → Bool
+has_pixel r c rect = nat_le rect.top r && nat_lt r rect.bottom && nat_le rect.left c && nat_lt c rect.right
 
 -- the rectangle has a pixel
 pub record IsNonEmpty (rect : Rect) : Type 0 where

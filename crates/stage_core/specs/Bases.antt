@@ -1,8 +1,9 @@
 -- Planes that are fetched cell by cell. This is this project's own.
-use Rattle.std.specs.Prelude.{◌≡◌, ℕ, ◌+◌, ◌-◌, ◌^◌, ◌<◌, ◌≤◌, List, length, min, slice_get, Some}
+use Rattle.std.specs.Prelude.{◌≡◌, ℕ, ◌+◌, ◌-◌, ◌^◌, ◌<◌, ◌≤◌, List, length, min, slice_get, Some, true}
+use Rattle.std.specs.List.{list_any}
 use Rattle.plane_view.specs.declared.Rect.{Rect}
 use Rattle.plane_view.specs.declared.Shape.{Shape}
-use Rattle.plane_view.specs.Rectangles.{HasPixel}
+use Rattle.plane_view.specs.Rectangles.{HasPixel, has_pixel}
 use Rattle.stage_core.specs.Planes.{IsPart}
 
 -- the rectangles of the cells of a plane of this shape: each pixel is in exactly one
@@ -10,7 +11,7 @@ pub record AreCells (cells : List Rect) (s : Shape) : Type 0 where
   pub some : 1 ≤ length cells
   pub most : length cells ≤ 65536
   pub part : (k : ℕ) (rect : Rect) → slice_get cells k ≡ Some rect → IsPart rect s
-  pub covered : (r c : ℕ) → r < s.rows → c < s.cols → (k : ℕ) × (rect : Rect) × (slice_get cells k ≡ Some rect) × HasPixel rect r c
+  pub covered : (r c : ℕ) → r < s.rows → c < s.cols → list_any (has_pixel r c) cells ≡ true
   pub apart : (i k : ℕ) (one other : Rect) → slice_get cells i ≡ Some one → slice_get cells k ≡ Some other → (r c : ℕ) → HasPixel one r c → HasPixel other r c → i ≡ k
 
 -- a count that rose by n, held at the greatest number of 64 bits
