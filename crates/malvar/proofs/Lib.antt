@@ -2,5 +2,4 @@ pub mod Sums
 pub mod Pixels
 pub mod Inside
 pub mod Windows
-pub mod WrittenRows
 pub mod BrightRed

@@ -1,6 +1,5 @@
 -- A row's sample, from five rows of a plane, is the plane's demosaiced sample.
-use Rattle.std.proofs.Common.{◌≡◌, ℕ, ◌+◌, ◌%◌, ◌<◌, ◌≤◌, cond, eqb, List, pos, negsuc, ℤ, ◌+ℤ◌, ◌≤ℤ◌, refl, sym, ◌∙◌, ap, inl, inr, arith}
-use Rattle.std.proofs.lemmas.Bool.Decides.{nat_tests}
+use Rattle.std.proofs.Common.{◌≡◌, ℕ, ◌+◌, ◌%◌, ◌<◌, ◌≤◌, cond, eqb, List, pos, negsuc, ℤ, ◌+ℤ◌, refl, sym, ◌∙◌, ap, inl, inr, arith}
 use Rattle.std.proofs.lemmas.Bool.{cases_lt}
 use Rattle.std.proofs.lemmas.Int.{ints}
 use Rattle.plane_view.specs.Plane.{Plane, sample}
@@ -12,12 +11,7 @@ use Rattle.malvar.specs.Rows.{IsWindowOf, around_by, around_at, row_sample}
 use Rattle.malvar.specs.declared.filters.Around.{Around}
 use Rattle.malvar.specs.declared.filters.Site.{Site}
 use Rattle.malvar.specs.declared.rows.Window.{Window}
-use Rattle.malvar.proofs.Inside.{reflected_inside}
-
--- what is up to 2 outside stands for something inside
-pub reflected_below : (n : ℕ) (i : ℤ) → 4 ≤ n → negsuc 1 ≤ℤ i → i ≤ℤ pos (n + 1) → reflected n i < n
-reflected_below n (pos i) size low high = grind (arith, ints, nat_tests)
-reflected_below n (negsuc i) size low high = grind (arith, ints, nat_tests)
+use Rattle.plane_view.proofs.Reflections.{reflected_inside, reflected_below}
 
 -- the sums round row r of a plane, with these columns
 abbrev around_in : Plane → ℕ → (left_2 left c right right_2 : ℕ) → Around

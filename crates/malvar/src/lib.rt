@@ -7,12 +7,14 @@ mod rows;
 
 ghost use Rattle.std.specs.Prelude.{◌≡◌, ◌+◌, ◌*◌, ◌≤◌, ◌<◌, pos, negsuc, ◌≤ℤ◌, length};
 ghost use Rattle.plane_view.specs.Plane.{Plane};
+ghost use Rattle.plane_view.specs.Rectangles.{whole_rect};
+ghost use Rattle.plane_view.specs.Rows.{IsRowOf};
 ghost use Rattle.malvar.specs.Pattern.{IsBayer};
 ghost use Rattle.malvar.specs.Demosaic.{malvar, demosaiced, demosaiced_at};
-ghost use Rattle.malvar.specs.Rows.{HasPixels, IsRow, IsWindow, IsWindowOf, single};
+ghost use Rattle.malvar.specs.Rows.{IsRow, IsWindow, IsWindowOf, single};
 
 use filters::RowSites;
-use plane_view::reflect;
+use plane_view::{Rect, TileMut, reflect};
 use rows::{Window, fill};
 
 /// Row `r` of a plane, reflected if it is outside.
@@ -56,7 +58,7 @@ fn fill_row(plane: &[u16], rows: u32, cols: u32, cfa: [u8; 4], r: u32, out: &mut
     requires pattern { IsBayer cfa }
     requires r { r < rows }
     requires out { length out.old ≡ cols * 3 }
-    ensures { HasPixels (demosaiced_at malvar cfa (single rows cols plane.now) r) out.new 0 cols }
+    ensures { IsRowOf (demosaiced_at malvar cfa (single rows cols plane.now)) (whole_rect rows cols) 3 r out.new }
 {
     let first = r as usize % 2 * 2;
     let sites = RowSites::new(cfa[first], cfa[first + 1]);
@@ -76,11 +78,13 @@ pub fn whole(plane: &[u16], rows: u32, cols: u32, cfa: [u8; 4], out: &mut [u16])
     requires pattern { IsBayer cfa }
     ensures { out.new ≡ (demosaiced malvar cfa (record { rows = rows; cols = cols; planes = 1; samples = plane.now })).samples }
 {
-    let width = cols as usize * 3;
-    for r in 0..rows {
-        let start = r as usize * width;
-        fill_row(plane, rows, cols, cfa, r, &mut out[start..start + width]);
-    }
+    let all = Rect {
+        top: 0,
+        left: 0,
+        bottom: rows,
+        right: cols,
+    };
+    TileMut::new(all, 3, out).write_rows(|r, row| fill_row(plane, rows, cols, cfa, r, row));
 }
 
 #[cfg(test)]

@@ -1,10 +1,15 @@
--- Laws of agreement: parts of a crop, and planes that agree with one.
+-- Laws of agreement: parts with given samples, parts of a crop, and planes that agree with one.
 use Rattle.std.proofs.Common.{◌≡◌, ℕ, ◌<◌, sym, ◌∙◌, ap, subst, arith}
 use Rattle.plane_view.specs.declared.Rect.{Rect}
 use Rattle.plane_view.specs.Plane.{Plane, sample}
 use Rattle.plane_view.specs.Rectangles.{HasPixel, LiesIn}
 use Rattle.plane_view.specs.Lent.{Lent, sample_at, lent_of, part_of, lent_crop, IsFull, AgreesWith}
+use Rattle.plane_view.specs.Rows.{HasSamples}
 use Rattle.plane_view.proofs.Parts.{same_parts, lent_at, part_whole}
+
+-- a full part with the samples f r c p is the part that f gives
+pub part_of_function : (f : ℕ → ℕ → ℕ → ℕ) (L : Lent) → IsFull L → HasSamples f L L.rect → L ≡ lent_of L.rect L.planes f
+part_of_function f L full has = sym (part_whole L full) ∙ same_parts L.rect L.planes (sample_at L) f has.samples
 
 -- a part that agrees with a plane is the plane's crop
 pub crop_of_part : (P : Plane) (L : Lent) (rect : Rect) → AgreesWith P L rect → part_of L rect ≡ lent_crop P rect

@@ -1,10 +1,12 @@
--- Laws of tiles: one write after another, and row after row.
+-- Laws of tiles: one write after another, row after row, and the end of a loan.
 use Rattle.std.proofs.Common.{◌≡◌, ℕ, ◌+◌, ◌-◌, ◌*◌, ◌<◌, ◌≤◌, ⊎_elim, get_or, refl, sym, ◌∙◌, ap, subst, arith}
 use Rattle.std.proofs.lemmas.Bool.{cases_lt}
 use Rattle.plane_view.specs.declared.Rect.{Rect}
 use Rattle.plane_view.specs.declared.tiles.TileMut.{TileMut}
 use Rattle.plane_view.specs.Rectangles.{HasPixel}
-use Rattle.plane_view.specs.Lent.{sample_at}
+use Rattle.plane_view.specs.Lent.{Lent, sample_at, lent_of}
+use Rattle.plane_view.specs.Rows.{HasSamples}
+use Rattle.plane_view.proofs.Agreement.{part_of_function}
 use Rattle.plane_view.specs.Tiles.{loan, tile_rect, row_in, KeepsOtherRows, SameLoan}
 use Rattle.plane_view.proofs.Writes.{pixel_in, row_in_at}
 
@@ -68,3 +70,14 @@ rows_step first old new r f begun same others row earlier r' c p pixel below pla
     ∙ row j q (at_first r j here) (plane_first q plane_here))
     (λ i j q here above plane_here. earlier i j q (at_first i j here) above (plane_first q plane_here))
     r' c p (subst (λ (x : Rect). HasPixel x r' c) (sym begun.rect) pixel) below (subst (λ (n : ℕ). p < n) (sym begun.planes) plane)
+
+-- a slice that was lent whole, and whose rows were written, has the samples f r c p
+pub slice_written : (f : ℕ → ℕ → ℕ → ℕ) (first now : TileMut) (L : Lent) → loan first ≡ L → tile_rect first ≡ L.rect → SameLoan first now → HasSamples f (loan now) (tile_rect first)
+    → (loan now).samples ≡ (lent_of L.rect L.planes f).samples
+slice_written f first now L lent is same has =
+    let home : (loan now).rect ≡ L.rect = same.home ∙ ap (λ (V : Lent). V.rect) lent in
+    let planes : (loan now).planes ≡ L.planes = same.planes ∙ ap (λ (V : Lent). V.planes) lent in
+    let here : HasSamples f (loan now) (loan now).rect = subst (λ (x : Rect). HasSamples f (loan now) x) (is ∙ sym home) has in
+    ap (λ (V : Lent). V.samples) (part_of_function f (loan now) now.long here)
+    ∙ ap (λ (x : Rect). (lent_of x (loan now).planes f).samples) home
+    ∙ ap (λ (n : ℕ). (lent_of L.rect n f).samples) planes
