@@ -1,10 +1,12 @@
-//! Planes that are fetched cell by cell, and counted work.
+//! Planes that are fetched cell by cell, stages that make planes of planes, and counted work.
 #![tactic(auto)]
 
 mod base;
+mod stage;
 mod steps;
 #[cfg(test)]
 mod tests;
 
 pub use base::Base;
+pub use stage::Stage;
 pub use steps::Steps;
