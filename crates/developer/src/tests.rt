@@ -1,0 +1,270 @@
+//! Tests of the whole run, over files, a script and a sink in memory.
+
+use crate::{Status, run};
+use raw_io::{MemFiles, MemSink, MemSource};
+use std::alloc::{AllocError, Global};
+use std::test::Fail;
+use test_frames::{bright_red, flat, patch};
+use tiff_dirs::Order;
+
+const ROOM: usize = 1 << 16;
+
+const USAGE_LINE: &[u8] = b"usage: rawdev FRAME [--settings FILE] [--budget SAMPLES] [--cell N]\n";
+
+/// The reply to a region of one pixel of the flat frame.
+const ONE_PIXEL: &[u8] = b"image 19\nP6\n1 1\n65535\n\x12\x34\x12\x34\x12\x34";
+
+// Tables come from functions of their own, so that the proofs of the tests, which are of safety alone, don't carry
+// their bytes.
+
+fn one_pixel() -> &'static [u8] {
+    ONE_PIXEL
+}
+
+/// The replies to two regions of the bright-red frame.
+fn bright_pixels() -> &'static [u8] {
+    b"image 31\nP6\n3 1\n65535\n\x06\x40\x03\x20\x04\xB0\x03\x20\x00\x00\x00\x00\x00\x00\x00\x00\x00\x00\
+      image 19\nP6\n1 1\n65535\n\x01\x90\x00\x00\x00\x00"
+}
+
+fn accepted_lines() -> [&'static [u8]; 5] {
+    [
+        b"region 0 0 1 1 ppm",
+        b"  region  0 0   1 1 ppm  \n",
+        b"region 0 0 1 1 ppm\r\n",
+        b"region 0000000003 3 1 1 ppm\n",
+        b"region 3 3 1 1 ppm\n",
+    ]
+}
+
+fn other_lines() -> [&'static [u8]; 16] {
+    [
+        b"region 0 0 1 1 ppm\r\r\n",
+        b"region 00000000003 3 1 1 ppm\n",
+        b"region 4 0 1 1 ppm\n",
+        b"region 0 4 1 1 ppm\n",
+        b"region 1 0 4 1 ppm\n",
+        b"region 0 1 1 4 ppm\n",
+        b"region 4294967295 0 1 1 ppm\n",
+        b"region 4294967296 0 1 1 ppm\n",
+        b"region 0 0 0 1 ppm\n",
+        b"region 0 0 1 0 ppm\n",
+        b"region 0 0 1 1 tiff\n",
+        b"region 0 0 1 1\n",
+        b"region 0 0 1 1 ppm ppm\n",
+        b"region\t0 0 1 1 ppm\n",
+        b"stat\n",
+        b"\n",
+    ]
+}
+
+fn refused_words() -> [&'static [&'static str]; 4] {
+    [
+        &[],
+        &["f.dng", "--cell", "20"],
+        &["f.dng", "--budget", "1073741825"],
+        &["-x"],
+    ]
+}
+
+/// The outside of a run.
+#[derive(Drop)]
+struct Outside {
+    files: MemFiles,
+    script: MemSource,
+    out: MemSink,
+}
+
+impl Outside {
+    /// A file `f.dng`, a script, and a sink with room.
+    fn new(alloc: Global, frame: &[u8], script: &[u8]) -> Result<Outside, AllocError> {
+        let mut files = MemFiles::new(alloc)?;
+        files.add("f.dng", frame)?;
+        Ok(Outside {
+            files,
+            script: MemSource::new(alloc, script)?,
+            out: MemSink::new(alloc, ROOM)?,
+        })
+    }
+
+    /// Runs with these words after the program's name.
+    fn run(&mut self, alloc: Global, words: &[&str]) -> Result<Status, AllocError> {
+        let mut all = vec![in alloc; String::from_str(alloc, "rawdev")?]?;
+        for word in words {
+            all.push(String::from_str(alloc, word)?)?;
+        }
+        Ok(run(
+            alloc,
+            &all,
+            &mut self.files,
+            &mut self.script,
+            &mut self.out,
+        ))
+    }
+}
+
+/// The flat frame's file.
+fn flat_file(alloc: Global) -> Result<Vec<u8>, AllocError> {
+    flat(alloc)?.bytes(alloc, Order::Little)
+}
+
+/// The status of a run over a file `f.dng` and a script, and what it wrote.
+fn ran(alloc: Global, file: &[u8], script: &[u8]) -> Result<(Status, Vec<u8>), AllocError> {
+    let mut outside = Outside::new(alloc, file, script)?;
+    let status = outside.run(alloc, &["f.dng"])?;
+    Ok((status, outside.out.bytes().to_vec(alloc)?))
+}
+
+/// Whether a file is refused with a line, and the script isn't read.
+fn is_refused(alloc: Global, file: &[u8], line: &[u8]) -> Result<bool, AllocError> {
+    let mut outside = Outside::new(alloc, file, b"region 0 0 1 1 ppm\n")?;
+    outside.script.fail_at(1)?;
+    let status = outside.run(alloc, &["f.dng"])?;
+    Ok(status == Status::Frame && outside.out.bytes() == line)
+}
+
+/// Whether the flat frame with other bytes from a place on is refused with a line.
+fn patched_is_refused(alloc: Global, at: usize, new: &[u8], line: &[u8]) -> Result<bool, AllocError> {
+    let mut file = flat_file(alloc)?;
+    patch(&mut file, at, new);
+    is_refused(alloc, &file, line)
+}
+
+#[test]
+fn statuses_have_their_numbers(rt: HostRuntime) {
+    for (status, number) in [
+        (Status::Done, 0),
+        (Status::Usage, 1),
+        (Status::Frame, 2),
+        (Status::ReadFault, 4),
+        (Status::WriteFault, 5),
+        (Status::Memory, 6),
+        (Status::ScriptTooLong, 7),
+    ] {
+        assert_eq!(rt; status.number(), number);
+    }
+}
+
+#[test]
+fn regions(rt: HostRuntime) -> Result<(), Fail> {
+    let alloc = rt.alloc();
+    let (status, bytes) = ran(alloc, &flat_file(alloc)?, b"region 0 0 1 1 ppm\n")?;
+    assert_eq!(rt; status, Status::Done);
+    assert_eq!(rt; bytes.as_slice(), one_pixel());
+    let bright = bright_red(alloc)?.bytes(alloc, Order::Little)?;
+    let (status, bytes) = ran(alloc, &bright, b"region 4 4 3 1 ppm\nregion 5 5 1 1 ppm\n")?;
+    assert_eq!(rt; status, Status::Done);
+    assert_eq!(rt; bytes.as_slice(), bright_pixels());
+    Ok(())
+}
+
+#[test]
+fn frames_are_refused(rt: HostRuntime) -> Result<(), Fail> {
+    let alloc = rt.alloc();
+    let file = flat_file(alloc)?;
+    assert!(rt; is_refused(alloc, &file[..file.len() - 1], b"refused Outside 0\n")?);
+    assert!(rt; is_refused(alloc, b"", b"refused NotTiff\n")?);
+    for (at, new, line) in [
+        (4, b"\xF0\xFF\xFF\xFF".as_slice(), b"refused BadDirectory 4294967280\n".as_slice()),
+        (8, b"\xFF\xFF".as_slice(), b"refused BadDirectory 8\n".as_slice()),
+    ] {
+        assert!(rt; patched_is_refused(alloc, at, new, line)?, "at {at}");
+    }
+    Ok(())
+}
+
+#[test]
+fn words_are_refused(rt: HostRuntime) -> Result<(), Fail> {
+    let alloc = rt.alloc();
+    for words in refused_words() {
+        let mut outside = Outside::new(alloc, b"", b"")?;
+        assert_eq!(rt; outside.run(alloc, words)?, Status::Usage);
+        assert_eq!(rt; outside.out.bytes(), USAGE_LINE);
+    }
+    Ok(())
+}
+
+#[test]
+fn lines(rt: HostRuntime) -> Result<(), Fail> {
+    let alloc = rt.alloc();
+    let file = flat_file(alloc)?;
+    for script in accepted_lines() {
+        let (status, bytes) = ran(alloc, &file, script)?;
+        assert_eq!(rt; status, Status::Done);
+        assert_eq!(rt; bytes.as_slice(), one_pixel(), "{script:?}");
+    }
+    for script in other_lines() {
+        let (status, bytes) = ran(alloc, &file, script)?;
+        assert_eq!(rt; status, Status::Done);
+        assert_eq!(rt; bytes.as_slice(), b"no yet\n".as_slice(), "{script:?}");
+    }
+    Ok(())
+}
+
+#[test]
+fn long_lines(rt: HostRuntime) -> Result<(), Fail> {
+    let alloc = rt.alloc();
+    let file = flat_file(alloc)?;
+    let mut script = b"region 0 0 1 1 ppm".to_vec(alloc)?;
+    script.resize(4096, b' ')?;
+    assert_eq!(rt; ran(alloc, &file, &script)?.1.as_slice(), one_pixel());
+    script.push(b' ')?;
+    assert_eq!(rt; ran(alloc, &file, &script)?.1.as_slice(), b"no yet\n".as_slice());
+    Ok(())
+}
+
+#[test]
+fn long_scripts(rt: HostRuntime) -> Result<(), Fail> {
+    let alloc = rt.alloc();
+    let file = flat_file(alloc)?;
+    let mut script = vec![in alloc; b'x'; 1 << 24]?;
+    let (status, bytes) = ran(alloc, &file, &script)?;
+    assert_eq!(rt; status, Status::Done);
+    assert_eq!(rt; bytes.as_slice(), b"no yet\n".as_slice());
+    script.push(b'x')?;
+    let (status, bytes) = ran(alloc, &file, &script)?;
+    assert_eq!(rt; status, Status::ScriptTooLong);
+    assert!(rt; bytes.is_empty());
+    Ok(())
+}
+
+#[test]
+fn reads_fail(rt: HostRuntime) -> Result<(), Fail> {
+    let alloc = rt.alloc();
+    let mut absent = Outside::new(alloc, b"", b"region 0 0 1 1 ppm\n")?;
+    assert_eq!(rt; absent.run(alloc, &["g.dng"])?, Status::ReadFault);
+    assert!(rt; absent.out.bytes().is_empty());
+
+    let mut unread = Outside::new(alloc, &flat_file(alloc)?, b"region 0 0 1 1 ppm\n")?;
+    unread.script.fail_at(1)?;
+    assert_eq!(rt; unread.run(alloc, &["f.dng"])?, Status::ReadFault);
+    assert!(rt; unread.out.bytes().is_empty());
+    Ok(())
+}
+
+#[test]
+fn writes_fail(rt: HostRuntime) -> Result<(), Fail> {
+    let alloc = rt.alloc();
+    let file = flat_file(alloc)?;
+    let mut unwritten = Outside::new(alloc, &file, b"region 0 0 1 1 ppm\n")?;
+    unwritten.out.fail_at(1)?;
+    assert_eq!(rt; unwritten.run(alloc, &["f.dng"])?, Status::WriteFault);
+    assert!(rt; unwritten.out.bytes().is_empty());
+
+    let mut full = Outside::new(alloc, &file, b"region 0 0 1 1 ppm\n")?;
+    full.out = MemSink::new(alloc, 9)?;
+    assert_eq!(rt; full.run(alloc, &["f.dng"])?, Status::WriteFault);
+    assert!(rt; full.out.bytes().len() <= 9 && one_pixel().starts_with(full.out.bytes()));
+    Ok(())
+}
+
+/// A region of one pixel is one write: a sink whose second write fails takes the whole reply.
+#[test]
+fn a_small_region_is_one_write(rt: HostRuntime) -> Result<(), Fail> {
+    let alloc = rt.alloc();
+    let mut outside = Outside::new(alloc, &flat_file(alloc)?, b"region 0 0 1 1 ppm\nstat\n")?;
+    outside.out.fail_at(2)?;
+    assert_eq!(rt; outside.run(alloc, &["f.dng"])?, Status::WriteFault);
+    assert_eq!(rt; outside.out.bytes(), one_pixel());
+    Ok(())
+}
