@@ -1,3 +1,4 @@
 pub mod CellLemmas
+pub mod FetchedCells
 pub mod Formulas
 pub mod PixelCells

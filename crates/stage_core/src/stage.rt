@@ -44,7 +44,13 @@ pub trait Stage: PartialEq + Drop {
 
     /// Writes the rectangle of `out`, from a view that has what it rests on of a plane of shape `whole`, and counts one
     /// step.
-    fn run<L: Ledger>(&self, input: &View<'_>, whole: Shape, out: &mut TileMut<'_>, work: &mut Steps<L>)
+    fn run<L: Ledger>(
+        &self,
+        input: &View<'_>,
+        whole: Shape,
+        out: &mut TileMut<'_>,
+        work: &mut Steps<L>,
+    )
         requires whole { IsShape whole }
         requires takes { takes self.now whole }
         requires rect { IsPart (tile_rect out.old) (shaped self.now whole) }
