@@ -1,0 +1,5 @@
+pub mod Chain
+pub mod Headers
+pub mod Prediction
+pub mod Scans
+pub mod Segments

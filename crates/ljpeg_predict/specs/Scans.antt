@@ -1,0 +1,26 @@
+-- What the headers tell of a scan.
+use Rattle.std.specs.Prelude.{ℕ, ◌*◌, ◌%◌, List, [], length, slice_index_or}
+use Rattle.ljpeg_huffman.specs.Words.{Table}
+use Rattle.ljpeg_predict.specs.declared.headers.Predictor.{Predictor}
+
+-- a scan: the samples' precision in bits, the number of lines and of samples a line, the code words of each component,
+-- the predictor, and the bytes from the first one of the data on
+pub record Scan : Type 0 where
+  pub precision : ℕ
+  pub lines : ℕ
+  pub columns : ℕ
+  pub tables : List Table
+  pub predictor : Predictor
+  pub bytes : List ℕ
+
+-- the number of components
+abbrev pub components : Scan → ℕ
+components scan = length scan.tables
+
+-- the number of samples of all components
+abbrev pub sample_count : Scan → ℕ
+sample_count scan = scan.lines * scan.columns * components scan
+
+-- the code words of the component that the sample at a place belongs to
+abbrev pub table_at : Scan → ℕ → Table
+table_at scan place = slice_index_or scan.tables (place % components scan) []
