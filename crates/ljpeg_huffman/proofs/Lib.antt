@@ -4,4 +4,5 @@ pub mod OrderLemmas
 pub mod ShortLemmas
 pub mod SpellLemmas
 pub mod TableLemmas
+pub mod TurnLemmas
 pub mod WalkLemmas

@@ -1,6 +1,9 @@
 -- Data bits, and the differences that they spell (ITU-T T.81, Annex H.1.2 and F.2.2).
-use Rattle.std.specs.Prelude.{◌≡◌, ℕ, suc, ◌-◌, ◌*◌, ◌^◌, ◌<◌, ◌≤◌, replicate, Bool, false, List, [], ◌∷◌, ◌++◌, length, ◌==◌, nat_lt, if◌then◌else◌, Contains, ℤ, pos, negsuc, ◌-ℤ◌, ◌⊎◌, refl}
+use Rattle.std.specs.Prelude.{◌≡◌, ℕ, suc, ◌-◌, ◌*◌, ◌^◌, ◌<◌, ◌≤◌, ◌%◌, unsigned_abs, replicate, map, slice_index_or, Bool, false, List, [], ◌∷◌, ◌++◌, length, ◌==◌, nat_lt, if◌then◌else◌, Contains, ℤ, pos, negsuc, ◌-ℤ◌, ◌⊎◌, refl}
+use Rattle.std.specs.Int.{int_rem_euclid}
 use Rattle.binary_digits.specs.Digits.{bits_of, byte_bits}
+use Rattle.ljpeg_huffman.specs.declared.bits.BitFault.{BitFault}
+use Rattle.ljpeg_huffman.specs.declared.bits.BitFault.TheVariants.{Ended, NoCode}
 use Rattle.ljpeg_huffman.specs.Words.{Table, IsPrefix}
 
 -- The bytes of the data: a zero behind an FF is stuffed and taken out. An FF that no zero follows ends them (T.81, F.1.2.3 and B.1.1.5).
@@ -65,6 +68,37 @@ EndsWithin table bits = ((¬ BeginsWithCode table bits) × IsCutCode table bits)
 -- No code word is a prefix of the bits, and they are no proper prefix of one.
 abbrev pub HasNoCode : Table → List Bool → Type 0
 HasNoCode table bits = (¬ BeginsWithCode table bits) × (¬ IsCutCode table bits)
+
+-- No difference of the table stands at the front of the bits, for this reason.
+abbrev pub IsRefused : Table → List Bool → BitFault → Type 0
+IsRefused table bits Ended = EndsWithin table bits
+IsRefused table bits NoCode = HasNoCode table bits
+
+-- a number modulo 2^16, as differences are meant (T.81, H.1.2.1)
+abbrev pub modulo : ℤ → ℕ
+modulo number = unsigned_abs (int_rem_euclid number (pos (2 ^ 16)))
+
+-- the table of a place where tables take turns
+abbrev pub by_turns : List Table → ℕ → Table
+by_turns tables place = slice_index_or tables (place % length tables) []
+
+-- The bits begin with differences, which these are modulo 2^16, and go on with `rest`.
+pub record Takes (tables : ℕ → Table) (bits : List Bool) (numbers : List ℕ) (rest : List Bool) : Type 0 where
+  pub values : List ℤ
+  pub taken : List Bool
+  pub parts : bits ≡ taken ++ rest
+  pub spelled : Spells tables taken values
+  pub each : numbers ≡ map modulo values
+
+-- The bits begin with fewer differences than `count`, and no further one stands behind them, for this reason.
+pub record StopsShort (tables : ℕ → Table) (bits : List Bool) (count : ℕ) (fault : BitFault) : Type 0 where
+  pub values : List ℤ
+  pub taken : List Bool
+  pub rest : List Bool
+  pub parts : bits ≡ taken ++ rest
+  pub spelled : Spells tables taken values
+  pub few : length values < count
+  pub refused : IsRefused (tables (length values)) rest fault
 
 -- A window has the next 16 of the bits that are held, and zeros where fewer are held.
 pub record IsWindow (held word window : ℕ) : Type 0 where

@@ -1,10 +1,10 @@
 //! Differences from stuffed data bits (ITU-T T.81, Annex H.1.2).
 
-ghost use Rattle.std.specs.Prelude.{◌≡◌, ℕ, ◌+◌, ◌-◌, ◌*◌, ◌/◌, ◌^◌, ◌<◌, ◌≤◌, ◌⊎◌, ◌↔◌, List, [], ◌∷◌, ◌++◌, Bool, length, IfOk, OnErr, MatchOption, ℤ};
+ghost use Rattle.std.specs.Prelude.{◌≡◌, ℕ, ◌+◌, ◌-◌, ◌*◌, ◌/◌, ◌^◌, ◌<◌, ◌≤◌, ◌⊎◌, ◌↔◌, List, [], ◌∷◌, ◌++◌, Bool, length, map, IfOk, IfErr, OnOk, OnErr, MatchOption, ℤ};
 ghost use Rattle.std.specs.Bool.{OnTrue};
 ghost use Rattle.binary_digits.specs.Digits.{bits_of};
 ghost use Rattle.ljpeg_huffman.specs.Words.{Table, IsPrefixFree};
-ghost use Rattle.ljpeg_huffman.specs.Differences.{unstuffed, data_bits, bits_left, further_bits, difference, IsWindow, SpellsOne, Spells, EndsWithin, HasNoCode};
+ghost use Rattle.ljpeg_huffman.specs.Differences.{unstuffed, data_bits, bits_left, by_turns, further_bits, difference, modulo, IsWindow, SpellsOne, Spells, StopsShort, Takes, EndsWithin, HasNoCode};
 
 use crate::table::CodeTable;
 use std::marker::Model;
@@ -81,6 +81,32 @@ impl<'a> Bits<'a> {
         let extra = self.register.take(size, further);
         Ok(extended(code.category, extra))
     }
+
+    /// Takes as many differences as `line` is long, by tables that take turns, and writes them there modulo 2^16. After
+    /// a fault `line` holds anything, and the place in the data is some earlier one.
+    pub fn next_differences(
+        &mut self,
+        tables: &[&CodeTable],
+        line: &mut [u16],
+    ) -> Result<(), BitFault>
+        requires { 0 < length tables.now }
+        ensures ok { OnOk result (Takes (by_turns (map (λ t. t.now) tables.now)) self.old line.new self.new) }
+        ensures fault { IfErr result (StopsShort (by_turns (map (λ t. t.now) tables.now)) self.old (length line.old)) }
+    {
+        let mut turn = 0;
+        for difference in line.iter_mut() {
+            *difference = modulo(self.next_difference(tables[turn])?);
+            turn = if turn + 1 < tables.len() { turn + 1 } else { 0 };
+        }
+        Ok(())
+    }
+}
+
+/// A number modulo 2^16.
+fn modulo(number: i32) -> u16
+    ensures { result ≡ modulo number }
+{
+    (number.cast_unsigned() % 0x1_0000) as u16
 }
 
 /// Bits spell one list of so many differences at most, whatever follows them, by tables in which no code word is a
