@@ -1,5 +1,6 @@
 pub mod Chain
 pub mod Headers
+pub mod Lines
 pub mod Prediction
 pub mod Scans
 pub mod Segments

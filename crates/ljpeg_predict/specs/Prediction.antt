@@ -1,6 +1,7 @@
 -- Samples from their differences (ITU-T T.81, H.1.2.1).
-use Rattle.std.specs.Prelude.{◌≡◌, ℕ, ◌+◌, ◌-◌, ◌*◌, ◌%◌, ◌^◌, nat_lt, unsigned_abs, if◌then◌else◌, ℤ, pos, ◌+ℤ◌, ◌-ℤ◌, List, length, slice_index, slice_index_or, EachIndex}
-use Rattle.std.specs.Int.{int_div_euclid, int_rem_euclid}
+use Rattle.std.specs.Prelude.{◌≡◌, ℕ, ◌+◌, ◌-◌, ◌*◌, ◌%◌, ◌^◌, nat_lt, if◌then◌else◌, ℤ, pos, ◌+ℤ◌, ◌-ℤ◌, List, length, slice_index, slice_index_or, EachIndex}
+use Rattle.std.specs.Int.{int_div_euclid}
+use Rattle.ljpeg_huffman.specs.Differences.{modulo}
 use Rattle.ljpeg_predict.specs.Scans.{Scan, components}
 use Rattle.ljpeg_predict.specs.declared.headers.Predictor.{Predictor}
 use Rattle.ljpeg_predict.specs.declared.headers.Predictor.TheVariants.{Left, Above, AboveLeft, Plane, LeftAndSlope, AboveAndSlope, Mean}
@@ -8,10 +9,6 @@ use Rattle.ljpeg_predict.specs.declared.headers.Predictor.TheVariants.{Left, Abo
 -- half of a number, rounded down
 abbrev pub half : ℤ → ℤ
 half z = int_div_euclid z (pos 2)
-
--- a number modulo 2^16
-abbrev pub modulo : ℤ → ℕ
-modulo z = unsigned_abs (int_rem_euclid z (pos (2 ^ 16)))
 
 -- the prediction from the samples to the left, above, and above to the left (table H.1)
 abbrev pub predicted : Predictor → ℕ → ℕ → ℕ → ℤ

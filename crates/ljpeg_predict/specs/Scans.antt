@@ -1,5 +1,6 @@
 -- What the headers tell of a scan.
-use Rattle.std.specs.Prelude.{ℕ, ◌*◌, ◌%◌, List, [], length, slice_index_or}
+use Rattle.std.specs.Prelude.{ℕ, ◌*◌, List, length}
+use Rattle.ljpeg_huffman.specs.Differences.{by_turns}
 use Rattle.ljpeg_huffman.specs.Words.{Table}
 use Rattle.ljpeg_predict.specs.declared.headers.Predictor.{Predictor}
 
@@ -23,4 +24,4 @@ sample_count scan = scan.lines * scan.columns * components scan
 
 -- the code words of the component that the sample at a place belongs to
 abbrev pub table_at : Scan → ℕ → Table
-table_at scan place = slice_index_or scan.tables (place % components scan) []
+table_at scan place = by_turns scan.tables place

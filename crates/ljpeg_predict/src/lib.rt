@@ -2,6 +2,7 @@
 #![tactic(auto)]
 
 mod headers;
+mod lines;
 mod segments;
 
 /// Why a stream gives no samples.
