@@ -4,7 +4,7 @@ use Rattle.std.proofs.lemmas.Bool.{cases_lt, cond-true, cond-false, lt-ltb, le-l
 use Rattle.ljpeg_huffman.specs.Differences.{modulo}
 use Rattle.ljpeg_predict.specs.Lines.{IsFirstLine, IsNextLine}
 use Rattle.ljpeg_predict.specs.Prediction.{predicted}
-use Rattle.ljpeg_predict.specs.declared.headers.Predictor.{Predictor}
+use Rattle.ljpeg_predict.specs.declared.scan.Predictor.{Predictor}
 use Rattle.ljpeg_predict.proofs.ModuloLemmas.{modulo-add}
 
 -- From `from` on, the numbers below a place are a prediction plus what stood there; the others are as they were.

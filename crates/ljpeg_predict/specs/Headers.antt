@@ -1,5 +1,5 @@
 -- The headers up to a scan's data (ITU-T T.81, B.2), as lossless JPEG has them (B.2.4 and annex H).
-use Rattle.std.specs.Prelude.{ℕ, zero, suc, ◌+◌, ◌*◌, ◌/◌, ◌%◌, ◌==◌, nat_eq, nat_lt, Bool, not, ◌||◌, if◌then◌else◌, List, [], ◌∷◌, length, map, sum, take, drop, slice_index, slice_index_or, slice_set, Option, None, Some, is_some, is_none, unwrap_or, Result, Ok, Err}
+use Rattle.std.specs.Prelude.{ℕ, zero, suc, ◌+◌, ◌*◌, ◌/◌, ◌%◌, ◌==◌, ◌≤◌, nat_eq, nat_lt, Bool, not, ◌||◌, if◌then◌else◌, List, [], ◌∷◌, length, map, sum, take, drop, slice_index, slice_index_or, slice_set, Option, None, Some, is_some, is_none, unwrap_or, Result, Ok, Err}
 use Rattle.std.specs.List.{list_all, list_any, range_with_len, starts_with}
 use Rattle.ljpeg_huffman.specs.Words.{Table, code_words, table_fault}
 use Rattle.ljpeg_predict.specs.Chain.{◌>>=◌}
@@ -8,8 +8,8 @@ use Rattle.ljpeg_predict.specs.Segments.{body_at, kind_of, marker_at, number_at}
 use Rattle.ljpeg_predict.specs.declared.JpegFault.{JpegFault}
 use Rattle.ljpeg_predict.specs.declared.JpegFault.TheVariants as fault
 use Rattle.ljpeg_predict.specs.declared.headers.FrameHeader.{FrameHeader}
-use Rattle.ljpeg_predict.specs.declared.headers.Predictor.{Predictor}
-use Rattle.ljpeg_predict.specs.declared.headers.Predictor.TheVariants.{Left, Above, AboveLeft, Plane, LeftAndSlope, AboveAndSlope, Mean}
+use Rattle.ljpeg_predict.specs.declared.scan.Predictor.{Predictor}
+use Rattle.ljpeg_predict.specs.declared.scan.Predictor.TheVariants.{Left, Above, AboveLeft, Plane, LeftAndSlope, AboveAndSlope, Mean}
 use Rattle.ljpeg_predict.specs.declared.segments.Kind.{Kind}
 use Rattle.ljpeg_predict.specs.declared.segments.Kind.TheVariants as kind
 
@@ -38,6 +38,13 @@ frame_of body =
       components = count;
       ids = id 0 ∷ id 1 ∷ id 2 ∷ id 3 ∷ [];
     }))))
+
+-- the bounds of a frame header that is told
+pub record IsFrame (frame : FrameHeader) : Type 0 where
+  pub low : 2 ≤ frame.precision
+  pub high : frame.precision ≤ 16
+  pub some : 1 ≤ frame.components
+  pub few : frame.components ≤ 4
 
 -- a table of code words with its number, and the bytes behind it
 pub record Numbered : Type 0 where

@@ -4,3 +4,4 @@ pub mod Lines
 pub mod Prediction
 pub mod Scans
 pub mod Segments
+pub mod Streams

@@ -2,9 +2,9 @@
 use Rattle.std.specs.Prelude.{◌≡◌, ℕ, ◌+◌, ◌-◌, ◌*◌, ◌%◌, ◌^◌, nat_lt, if◌then◌else◌, ℤ, pos, ◌+ℤ◌, ◌-ℤ◌, List, length, slice_index, slice_index_or, EachIndex}
 use Rattle.std.specs.Int.{int_div_euclid}
 use Rattle.ljpeg_huffman.specs.Differences.{modulo}
-use Rattle.ljpeg_predict.specs.Scans.{Scan, components}
-use Rattle.ljpeg_predict.specs.declared.headers.Predictor.{Predictor}
-use Rattle.ljpeg_predict.specs.declared.headers.Predictor.TheVariants.{Left, Above, AboveLeft, Plane, LeftAndSlope, AboveAndSlope, Mean}
+use Rattle.ljpeg_predict.specs.Scans.{Scan, components, row_length}
+use Rattle.ljpeg_predict.specs.declared.scan.Predictor.{Predictor}
+use Rattle.ljpeg_predict.specs.declared.scan.Predictor.TheVariants.{Left, Above, AboveLeft, Plane, LeftAndSlope, AboveAndSlope, Mean}
 
 -- half of a number, rounded down
 abbrev pub half : ℤ → ℤ
@@ -26,7 +26,7 @@ predicted Mean left above corner = half (pos left +ℤ pos above)
 unfoldable pub prediction : Scan → List ℕ → ℕ → ℤ
 prediction scan samples place =
     let step = components scan in
-    let row = scan.columns * step in
+    let row = row_length scan in
     let left = slice_index samples (place - step) in
     let above = slice_index samples (place - row) in
     if nat_lt place step then pos (2 ^ (scan.precision - 1))

@@ -1,33 +1,13 @@
 //! The headers up to a scan's data (ITU-T T.81, B.2).
 
-ghost use Rattle.std.specs.Prelude.{◌≡◌, ◌≤◌, ◌<◌, ◌+◌, List, Option, length, sum, IfOk, MatchResult, option_copied};
-ghost use Rattle.ljpeg_huffman.specs.Words.{Table};
+ghost use Rattle.std.specs.Prelude.{◌≡◌, ◌≤◌, ◌<◌, ◌+◌, length, sum, IfOk, MatchResult};
 ghost use Rattle.ljpeg_predict.specs.Chain.{Gives};
-ghost use Rattle.ljpeg_predict.specs.Headers.{frame_of, has_other_component, headers_in, headers_of, interval_of, is_subsampled, lacks_table, predictor_of, scan_of, table_in, table_numbers, tables_of, told_table};
+ghost use Rattle.ljpeg_predict.specs.Headers.{IsFrame, frame_of, headers_in, headers_of, interval_of, is_subsampled, table_in, tables_of};
 
 use crate::JpegFault;
+use crate::scan::{Scan, read_scan};
 use crate::segments::{Kind, byte_or_zero, number, read_body, read_marker, segment_kind};
 use ljpeg_huffman::CodeTable;
-use std::marker::Model;
-
-/// How a sample is predicted from those to the left, above, and above to the left (table H.1).
-#[derive(Clone, Copy)]
-pub(crate) enum Predictor {
-    /// The sample to the left.
-    Left,
-    /// The sample above.
-    Above,
-    /// The sample above to the left.
-    AboveLeft,
-    /// Left, and above less above left.
-    Plane,
-    /// Left, and half of above less above left.
-    LeftAndSlope,
-    /// Above, and half of left less above left.
-    AboveAndSlope,
-    /// Half of left and above.
-    Mean,
-}
 
 /// The frame header: the samples' precision in bits, the lines, the samples a line, and the components with their
 /// identifiers, 0 where there are fewer than four.
@@ -40,44 +20,11 @@ pub(crate) struct FrameHeader {
     pub ids: [u8; 4],
 }
 
-/// The scan that the headers tell.
-#[derive(Drop)]
-pub(crate) struct Scan<'a> {
-    frame: FrameHeader,
-    predictor: Predictor,
-    /// The tables that were told, by their number.
-    tables: [Option<CodeTable>; 4],
-    /// The number of each component's table, and zeros.
-    numbers: [u8; 4],
-    /// The bytes from the first one of the data on.
-    bytes: &'a [u8],
-}
-
-impl<'a> Model for Scan<'a> {
-    ghost use Rattle.std.specs.Prelude.{◌≤◌, ◌≡◌, false, take};
-    ghost use Rattle.ljpeg_predict.specs.Headers.{chosen_tables, lacks_table};
-    ghost use Rattle.ljpeg_predict.specs.Scans as spec;
-
-    ghost Value = { spec.Scan };
-
-    ghost view = { λ scan. record {
-        precision = scan.frame.precision;
-        lines = scan.frame.lines;
-        columns = scan.frame.columns;
-        tables = chosen_tables scan.tables (take scan.frame.components scan.numbers);
-        predictor = scan.predictor;
-        bytes = scan.bytes.now } };
-
-    ghost invariant = { λ scan. (1 ≤ scan.frame.components)
-        × (scan.frame.components ≤ 4)
-        × (lacks_table scan.tables (take scan.frame.components scan.numbers) ≡ false) };
-}
-
 /// The frame header that a body tells.
 #[tactic(auto, unfolding(crate::specs::Headers::frame_of))]
 fn frame_header(body: &[u8]) -> Result<FrameHeader, JpegFault>
     ensures gives { result ≡ frame_of body.now }
-    ensures components { IfOk result (λ frame. (1 ≤ frame.components) × (frame.components ≤ 4)) }
+    ensures whole { IfOk result IsFrame }
 {
     if body.len() < 6 || body.len() != 6 + 3 * usize::from(body[5]) {
         return Err(JpegFault::HeaderLength);
@@ -115,16 +62,6 @@ fn is_subsampled(body: &[u8], components: u8) -> bool
     (0..components).any(|c| byte_or_zero(body, 7 + 3 * usize::from(c)) != 0x11)
 }
 
-/// Whether some component of a scan header's body is another than the frame has at that place.
-#[tactic(auto, unfolding(crate::specs::Headers::has_other_component))]
-fn has_other_component(body: &[u8], ids: &[u8], components: u8) -> bool
-    ensures { result ≡ has_other_component body.now ids.now components }
-{
-    (0..components).any(|c| {
-        byte_or_zero(body, 1 + 2 * usize::from(c)) != byte_or_zero(ids, usize::from(c))
-    })
-}
-
 /// Refuses a restart interval but 0.
 #[tactic(auto, unfolding(crate::specs::Headers::interval_of))]
 fn restart_interval(body: &[u8]) -> Result<(), JpegFault>
@@ -137,22 +74,6 @@ fn restart_interval(body: &[u8]) -> Result<(), JpegFault>
         return Err(JpegFault::Restart);
     }
     Ok(())
-}
-
-/// The predictor of a selection value.
-fn read_predictor(selection: u8) -> Result<Predictor, JpegFault>
-    ensures { result ≡ predictor_of selection }
-{
-    match selection {
-        1 => Ok(Predictor::Left),
-        2 => Ok(Predictor::Above),
-        3 => Ok(Predictor::AboveLeft),
-        4 => Ok(Predictor::Plane),
-        5 => Ok(Predictor::LeftAndSlope),
-        6 => Ok(Predictor::AboveAndSlope),
-        7 => Ok(Predictor::Mean),
-        _ => Err(JpegFault::Predictor),
-    }
 }
 
 /// How many values the counts of the lengths announce.
@@ -205,70 +126,6 @@ fn read_tables(tables: &mut [Option<CodeTable>; 4], body: &[u8]) -> Result<(), J
         }
         left = rest;
     }
-}
-
-/// A component's table, if it was told.
-fn told_table(tables: &[Option<CodeTable>; 4], number: u8) -> Option<&CodeTable>
-    ensures { option_copied result ≡ told_table tables.now number }
-{
-    tables.get(usize::from(number))?.as_ref()
-}
-
-/// Whether one of some tables was never told.
-#[tactic(auto, unfolding(crate::specs::Headers::lacks_table))]
-fn lacks_table(tables: &[Option<CodeTable>; 4], numbers: &[u8]) -> bool
-    ensures { result ≡ lacks_table tables.now numbers.now }
-{
-    numbers.iter().any(|number| told_table(tables, *number).is_none())
-}
-
-/// The scan that the body of its header tells, before its data.
-#[tactic(auto, unfolding(crate::specs::Headers::scan_of))]
-fn read_scan<'a>(
-    frame: FrameHeader,
-    tables: [Option<CodeTable>; 4],
-    body: &[u8],
-    bytes: &'a [u8],
-) -> Result<Scan<'a>, JpegFault>
-    requires some { 1 ≤ frame.components }
-    requires few { frame.components ≤ 4 }
-    ensures { result ≡ scan_of frame tables body.now bytes.now }
-{
-    if body.len() < 4 || body.len() != 4 + 2 * usize::from(body[0]) {
-        return Err(JpegFault::HeaderLength);
-    }
-    let count = body[0];
-    if count != frame.components || has_other_component(body, &frame.ids, count) {
-        return Err(JpegFault::Components);
-    }
-    let numbers = table_numbers(body);
-    if lacks_table(&tables, &numbers[..usize::from(count)]) {
-        return Err(JpegFault::NoTable);
-    }
-    let place = 1 + 2 * usize::from(count);
-    let predictor = read_predictor(body[place])?;
-    if body[place + 2] % 16 != 0 {
-        return Err(JpegFault::PointTransform);
-    }
-    Ok(Scan {
-        frame,
-        predictor,
-        tables,
-        numbers,
-        bytes,
-    })
-}
-
-/// The numbers of the tables of four components of a scan header's body, 0 where there are fewer.
-fn table_numbers(body: &[u8]) -> [u8; 4]
-    ensures { result ≡ table_numbers body.now }
-{
-    [
-        byte_or_zero(body, 2) / 16,
-        byte_or_zero(body, 4) / 16,
-        byte_or_zero(body, 6) / 16,
-        byte_or_zero(body, 8) / 16,
-    ]
 }
 
 /// The scan of a stream, or the first refusal of its headers.

@@ -1,9 +1,18 @@
 //! Lossless JPEG streams (ITU-T T.81, Annex H): their samples.
 #![tactic(auto)]
 
+ghost use Rattle.std.specs.Prelude.{◌≡◌, ◌≤◌, ◌<◌, ◌^◌, length};
+ghost use Rattle.ljpeg_predict.specs.Streams.{IsAnswer};
+
 mod headers;
 mod lines;
+mod samples;
+mod scan;
 mod segments;
+
+use headers::read_headers;
+use ljpeg_huffman::BitFault;
+use samples::read_samples;
 
 /// Why a stream gives no samples.
 #[derive(Clone, Copy, Debug, PartialEq, Eq)]
@@ -38,4 +47,23 @@ pub enum JpegFault {
     Ended,
     /// The data went on with the bits of no code word.
     NoCode,
+}
+
+/// Writes the samples of a stream, line by line, sample by sample, component by component, where the stream has as many
+/// as `out` is long. What follows the last one isn't looked at. After a refusal `out` holds anything.
+pub fn decode(bytes: &[u8], out: &mut [u16]) -> Result<(), JpegFault>
+    requires some { 0 < length out.old }
+    requires few { length out.old ≤ 2 ^ 25 }
+    ensures { IsAnswer bytes.now (length out.old) result out.new }
+{
+    let scan = read_headers(bytes)?;
+    let has = scan.sample_count();
+    if has != out.len() as u64 {
+        return Err(JpegFault::Size { has });
+    }
+    match read_samples(&scan, out) {
+        Ok(()) => Ok(()),
+        Err(BitFault::Ended) => Err(JpegFault::Ended),
+        Err(BitFault::NoCode) => Err(JpegFault::NoCode),
+    }
 }

@@ -4,13 +4,13 @@ ghost use Rattle.std.specs.Prelude.{◌≡◌, ℕ, ◌+◌, ◌-◌, ◌%◌, �
 ghost use Rattle.ljpeg_huffman.specs.Differences.{modulo};
 ghost use Rattle.ljpeg_predict.specs.Lines.{IsFirstLine, IsNextLine};
 ghost use Rattle.ljpeg_predict.specs.Prediction.{half, predicted};
-ghost use Rattle.ljpeg_predict.specs.declared.headers.Predictor.TheVariants as kind;
+ghost use Rattle.ljpeg_predict.specs.declared.scan.Predictor.TheVariants as kind;
 
-use crate::headers::Predictor;
+use crate::scan::Predictor;
 
 /// Adds to the differences of the first line their predictions: `start` for the first sample of each component, the
 /// sample to the left for the others.
-fn first_line(line: &mut [u16], step: usize, start: u16)
+pub(crate) fn first_line(line: &mut [u16], step: usize, start: u16)
     requires { 0 < step }
     ensures { IsFirstLine start step line.old line.new }
 {
@@ -26,7 +26,7 @@ fn first_line(line: &mut [u16], step: usize, start: u16)
 
 /// Adds to the differences of a later line their predictions: the sample above for the first of each component, the
 /// predictor's for the others.
-fn next_line(predictor: Predictor, above: &[u16], line: &mut [u16], step: usize)
+pub(crate) fn next_line(predictor: Predictor, above: &[u16], line: &mut [u16], step: usize)
     requires step { 0 < step }
     requires above { length above.now ≡ length line.old }
     requires room { step ≤ length line.old }

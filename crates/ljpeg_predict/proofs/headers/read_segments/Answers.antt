@@ -5,7 +5,7 @@ use Rattle.ljpeg_predict.proofs.HeaderLemmas.{headers_end, headers_next, refused
 use Rattle.ljpeg_predict.proofs.headers.read_segments.Goals as goal
 
 pub loop-marker-init : goal.loop-marker-init
-loop-marker-init c = record { left = record { fuel = _; enough = omega arith; same = refl }; components = tt }
+loop-marker-init c = record { left = record { fuel = _; enough = omega arith; same = refl }; whole = tt }
 
 pub returns-in_err-marker : goal.returns-in_err-marker
 returns-in_err-marker c =
@@ -54,15 +54,10 @@ returns-in_err-restart_interval-in-RestartInterval c =
     (λ next. whole_segment _ _ _ _ _ _ c.in_ok-marker.ensures.gives (sym c.in_ok-kind.ensures ∙ ap Ok c.in-RestartInterval.is) c.in_ok-body.ensures.gives next
     (rw (← c.in_err-restart_interval-in-RestartInterval.ensures) refl)))
 
-pub read_scan-requires-clause-some : goal.read_scan-requires-clause-some
-read_scan-requires-clause-some c =
+pub read_scan-requires : goal.read_scan-requires
+read_scan-requires c =
     let e = scan_frame _ _ _ (sym c.in_ok-kind.ensures ∙ ap Ok c.in-Scan.is) in
-    (MatchOption-at_some _ _ _ e c.loop-marker.invariant.components).0
-
-pub read_scan-requires-clause-few : goal.read_scan-requires-clause-few
-read_scan-requires-clause-few c =
-    let e = scan_frame _ _ _ (sym c.in_ok-kind.ensures ∙ ap Ok c.in-Scan.is) in
-    (MatchOption-at_some _ _ _ e c.loop-marker.invariant.components).1
+    MatchOption-at_some _ _ _ e c.loop-marker.invariant.whole
 
 pub returns-in-Scan : goal.returns-in-Scan
 returns-in-Scan c =
@@ -75,7 +70,7 @@ loop-marker-preserved-in_ok-frame_header-in-Frame c = record {
   left = headers_next _ _ _ _ _ c.loop-marker.invariant.left (omega (arith, c.in_ok-marker.ensures.shorter, c.in_ok-body.ensures.shorter))
     (λ next. whole_segment _ _ _ _ _ _ c.in_ok-marker.ensures.gives (sym c.in_ok-kind.ensures ∙ ap Ok c.in-Frame.is) c.in_ok-body.ensures.gives next
     (rw (← c.in_ok-frame_header-in-Frame.ensures.gives) refl));
-  components = c.in_ok-frame_header-in-Frame.ensures.components;
+  whole = c.in_ok-frame_header-in-Frame.ensures.whole;
 }
 
 pub loop-marker-preserved-in_ok-read_tables-in-Tables : goal.loop-marker-preserved-in_ok-read_tables-in-Tables
@@ -83,7 +78,7 @@ loop-marker-preserved-in_ok-read_tables-in-Tables c = record {
   left = headers_next _ _ _ _ _ c.loop-marker.invariant.left (omega (arith, c.in_ok-marker.ensures.shorter, c.in_ok-body.ensures.shorter))
     (λ next. whole_segment _ _ _ _ _ _ c.in_ok-marker.ensures.gives (sym c.in_ok-kind.ensures ∙ ap Ok c.in-Tables.is) c.in_ok-body.ensures.gives next
     (rw c.in_ok-read_tables-in-Tables.ensures refl));
-  components = c.loop-marker.invariant.components;
+  whole = c.loop-marker.invariant.whole;
 }
 
 pub loop-marker-preserved-in_ok-restart_interval-in-RestartInterval : goal.loop-marker-preserved-in_ok-restart_interval-in-RestartInterval
@@ -91,12 +86,12 @@ loop-marker-preserved-in_ok-restart_interval-in-RestartInterval c = record {
   left = headers_next _ _ _ _ _ c.loop-marker.invariant.left (omega (arith, c.in_ok-marker.ensures.shorter, c.in_ok-body.ensures.shorter))
     (λ next. whole_segment _ _ _ _ _ _ c.in_ok-marker.ensures.gives (sym c.in_ok-kind.ensures ∙ ap Ok c.in-RestartInterval.is) c.in_ok-body.ensures.gives next
     (rw (← c.in_ok-restart_interval-in-RestartInterval.ensures) refl));
-  components = c.loop-marker.invariant.components;
+  whole = c.loop-marker.invariant.whole;
 }
 
 pub loop-marker-preserved : goal.loop-marker-preserved
 loop-marker-preserved c = record {
   left = headers_next _ _ _ _ _ c.loop-marker.invariant.left (omega (arith, c.in_ok-marker.ensures.shorter, c.in_ok-body.ensures.shorter))
     (λ next. whole_segment _ _ _ _ _ _ c.in_ok-marker.ensures.gives (sym c.in_ok-kind.ensures ∙ ap Ok c.in-PassedOver.is) c.in_ok-body.ensures.gives next refl);
-  components = c.loop-marker.invariant.components;
+  whole = c.loop-marker.invariant.whole;
 }

@@ -1,5 +1,5 @@
 use Rattle.std.proofs.Common.{arith}
-use Rattle.ljpeg_predict.specs.declared.headers.Predictor.TheVariants.{Left, Above, AboveLeft, Plane, LeftAndSlope, AboveAndSlope, Mean}
+use Rattle.ljpeg_predict.specs.declared.scan.Predictor.TheVariants.{Left, Above, AboveLeft, Plane, LeftAndSlope, AboveAndSlope, Mean}
 use Rattle.ljpeg_predict.proofs.LineLemmas.{next_line_is}
 use Rattle.ljpeg_predict.proofs.lines.next_line.Goals as goal
 
