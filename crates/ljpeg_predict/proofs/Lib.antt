@@ -5,3 +5,5 @@ pub mod TableLemmas
 pub mod PredictionLemmas
 pub mod DecodeLemmas
 pub mod LongestLemmas
+pub mod FreeLemmas
+pub mod AnswerLemmas
