@@ -1,0 +1,8 @@
+use Rattle.opcode_list.proofs.Places.{rects_at-more, rects_at-none}
+use Rattle.opcode_list.proofs.params.rects.Goals as goal
+
+pub loop-k-init : goal.loop-k-init
+loop-k-init c = rw rects_at-none c.in_ok-rects.ensures.items
+
+pub loop-k-preserved : goal.loop-k-preserved
+loop-k-preserved c = rw (rects_at-more, ← c.loop-k.invariant, ← c.rect.ensures) c.in_ok-push.ensures.items

@@ -1,0 +1,5 @@
+pub mod Cuts
+pub mod Faults
+pub mod Lists
+pub mod Params
+pub mod Seen
