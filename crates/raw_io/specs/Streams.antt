@@ -17,7 +17,9 @@ pub record OpenedFiles (O : Type 0) : Type 0 where
   pub faults : ℕ
 
 -- A file that was opened holds these bytes, and from each place it has the rest of them left to read.
-pub record Holds {F : Type 0} (remaining : F → Option (List ℕ)) (position : F → Option ℕ) (contents : F → Option (List ℕ)) (file : F) (bytes : List ℕ) : Type 0 where
+pub record Holds {F : Type 0} (remaining : F → Option (List ℕ)) (position : F → Option ℕ)
+    (contents : F → Option (List ℕ)) (file : F) (bytes : List ℕ) : Type 0 where
   pub whole : contents file ≡ Some bytes
   pub placed : IsSome (position file)
-  pub rest : (other : F) (at : ℕ) → contents other ≡ Some bytes → position other ≡ Some at → remaining other ≡ Some (drop at bytes)
+  pub rest : (other : F) (at : ℕ) → contents other ≡ Some bytes → position other ≡ Some at
+      → remaining other ≡ Some (drop at bytes)

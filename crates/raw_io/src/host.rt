@@ -1,6 +1,6 @@
 // Files that are opened by their names, as those of the machine.
 
-ghost use Rattle.std.specs.Prelude.{◌≡◌, ℕ, ◌<◌, ◌≤◌, List, length, Option, None, IfOk, IfSome, OnOk, OnErr, is_err, if◌then◌else◌};
+ghost use Rattle.std.specs.Prelude.{◌≡◌, ℕ, ◌≤◌, List, length, Option, None, IfOk, IfSome, is_err, if◌then◌else◌};
 ghost use Rattle.raw_io.specs.Outside.{ReadsAt};
 ghost use Rattle.raw_io.specs.Memory.{one_more};
 ghost use Rattle.raw_io.specs.Streams.{OpenedFiles, Holds};
@@ -69,7 +69,8 @@ impl<O: Opener> Files for HostFiles<O> {
         ensures contents { (other : List ℕ) → O.told self.new.opener other ≡ O.told self.old.opener other }
         ensures counts { (other : List ℕ) → self.old.faults ≤ self.new.faults }
         ensures within { IfOk result (λ n. n ≤ length into.old) }
-        ensures bytes { IfOk result (λ n. IfSome (O.told self.old.opener name.now) (λ bytes. ReadsAt bytes at into.new n)) }
+        ensures bytes { IfOk result (λ n. IfSome (O.told self.old.opener name.now)
+            (λ bytes. ReadsAt bytes at into.new n)) }
         ensures count { self.new.faults ≡ (if is_err result then one_more self.old.faults else self.old.faults) }
     {
         let outcome = read_file(&self.opener, name, at, into);

@@ -1,6 +1,7 @@
 // A source over a reader of std, and a sink over a writer. They tell what these tell of their bytes.
 
-ghost use Rattle.std.specs.Prelude.{◌≡◌, ℕ, ◌<◌, ◌≤◌, List, [], length, take, Some, IfOk, OnOk, OnErr, IfSome, is_err, if◌then◌else◌};
+ghost use Rattle.std.specs.Prelude.{◌≡◌, ℕ, ◌<◌, ◌≤◌, List, [], length, take, Some, IfOk, OnErr, IfSome};
+ghost use Rattle.std.specs.Prelude.{is_err, if◌then◌else◌};
 ghost use Rattle.std.specs.Io.KnownBytes.{Keeps, WriteAppends};
 ghost use Rattle.raw_io.specs.Outside.{Takes, Appends};
 ghost use Rattle.raw_io.specs.Memory.{one_more};
@@ -43,7 +44,8 @@ impl<R: Read> Source for StdSource<R> {
         ensures counts { self.old.faults ≤ self.new.faults }
         ensures within { IfOk result (λ n. n ≤ length into.old) }
         ensures taken { IfOk result (λ n. Takes self.old.left self.new.left (take n into.new)) }
-        ensures end { IfOk result (λ n. n ≡ 0 → 0 < length into.old → IfSome self.old.left (λ bytes. length bytes ≡ 0)) }
+        ensures end { IfOk result (λ n. n ≡ 0 → 0 < length into.old
+            → IfSome self.old.left (λ bytes. length bytes ≡ 0)) }
         ensures kept { OnErr result (Takes self.old.left self.new.left []) }
         ensures count { self.new.faults ≡ (if is_err result then one_more self.old.faults else self.old.faults) }
     {
@@ -102,7 +104,8 @@ impl<W: Write> Sink for StdSink<W> {
         ensures counts { self.old.faults ≤ self.new.faults }
         ensures within { IfOk result (λ n. n ≤ length from.now) }
         ensures progress { IfOk result (λ n. 0 < length from.now → 0 < n) }
-        ensures appended { IfOk result (λ n. Appends (λ s list. s.held ≡ Some list) self.old self.new (take n from.now)) }
+        ensures appended { IfOk result (λ n.
+            Appends (λ s list. s.held ≡ Some list) self.old self.new (take n from.now)) }
         ensures kept { OnErr result ((list : List ℕ) → self.old.held ≡ Some list → self.new.held ≡ Some list) }
         ensures count { self.new.faults ≡ (if is_err result then one_more self.old.faults else self.old.faults) }
     {

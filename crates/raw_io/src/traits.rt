@@ -1,6 +1,6 @@
 // What files, sources and sinks are, by what their calls promise.
 
-ghost use Rattle.std.specs.Prelude.{◌≡◌, ℕ, ◌+◌, ◌<◌, ◌≤◌, List, [], length, take, Option, None, Some, IfOk, IsErr, OnOk, OnErr, IfSome};
+ghost use Rattle.std.specs.Prelude.{◌≡◌, ℕ, ◌<◌, ◌≤◌, List, [], length, take, Option, IfOk, OnOk, OnErr, IfSome};
 ghost use Rattle.raw_io.specs.Outside.{Rises, SameCounts, ReadsAt, Takes, Appends};
 
 /// The one answer of an outside call that failed.
@@ -12,7 +12,7 @@ pub trait Files {
     /// The contents under a name, where they are told.
     ghost told: { Self → List ℕ → Option (List ℕ) };
 
-    /// How often a read of a name has failed. Several names may share one count. A read that went well changes no count.
+    /// How often a read of a name has failed. Several names may share one count. A read that went well leaves each.
     ghost faults: { Self → List ℕ → ℕ };
 
     /// Reads from an offset into the front of `into`, and answers how many bytes; 0 for a slice that isn't empty only
@@ -41,7 +41,8 @@ pub trait Source {
         ensures no_fault { OnOk result (faults self.new ≡ faults self.old) }
         ensures within { IfOk result (λ n. n ≤ length into.old) }
         ensures taken { IfOk result (λ n. Takes (left self.old) (left self.new) (take n into.new)) }
-        ensures end { IfOk result (λ n. n ≡ 0 → 0 < length into.old → IfSome (left self.old) (λ bytes. length bytes ≡ 0)) }
+        ensures end { IfOk result (λ n. n ≡ 0 → 0 < length into.old
+            → IfSome (left self.old) (λ bytes. length bytes ≡ 0)) }
         ensures kept { OnErr result (Takes (left self.old) (left self.new) []) }
         ensures failed { OnErr result (Rises (faults self.old) (faults self.new)) };
 }

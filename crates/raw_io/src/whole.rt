@@ -103,7 +103,8 @@ pub fn read_source<C: Source>(
     ensures failed { IsErrOf result ReadFault.Failed
         → Takes (C.left source.old) (C.left source.new) into.new.items × (vec_len into.new ≤ limit) }
     ensures rises { IsErrOf result ReadFault.Failed → Rises (C.faults source.old) (C.faults source.new) }
-    ensures memory { IsErrOf result ReadFault.Memory → TakesAtMost (limit + 1) (C.left source.old) (C.left source.new) }
+    ensures memory { IsErrOf result ReadFault.Memory
+        → TakesAtMost (limit + 1) (C.left source.old) (C.left source.new) }
 {
     let mut buffer = working_buffer(*into.allocator())?;
     take_into(source, limit, &mut buffer, into)
@@ -168,7 +169,8 @@ fn take_into<C: Source>(
     ensures failed { IsErrOf result ReadFault.Failed
         → Takes (C.left source.old) (C.left source.new) into.new.items × (vec_len into.new ≤ limit) }
     ensures rises { IsErrOf result ReadFault.Failed → Rises (C.faults source.old) (C.faults source.new) }
-    ensures memory { IsErrOf result ReadFault.Memory → TakesAtMost (limit + 1) (C.left source.old) (C.left source.new) }
+    ensures memory { IsErrOf result ReadFault.Memory
+        → TakesAtMost (limit + 1) (C.left source.old) (C.left source.new) }
 {
     loop {
         let most = piece_len(limit - into.len() as u64, buffer.len());
