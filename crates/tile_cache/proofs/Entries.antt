@@ -1,5 +1,7 @@
 -- The cache of lru, whose entries hold vectors, beside the pairs that contracts see.
-use Rattle.std.proofs.Common.{◌≡◌, ◌∙◌, ◌+◌, ◌-◌, ◌<◌, ◌≤◌, ℕ, zero, suc, Bool, true, false, cond, List, [], ◌∷◌, length, take, map, Option, Some, None, option_map, is_some, Vec, Global, refl, sym, ap, arith, le-leb}
+use Rattle.std.proofs.Common.{◌≡◌, ◌∙◌, ◌+◌, ◌-◌, ◌<◌, ◌≤◌, ℕ, zero, suc, Bool, true, false, cond}
+use Rattle.std.proofs.Common.{refl, sym, ap, arith, le-leb}
+use Rattle.std.proofs.Common.{List, [], ◌∷◌, length, take, map, Option, Some, None, option_map, is_some, Vec, Global}
 use Rattle.std.specs.Prelude.{slice_get}
 use Rattle.std.specs.List.{sum_by}
 use Rattle.std.specs.Option.{option_map_or}
@@ -27,7 +29,8 @@ is_some-pairs test [] = refl
 is_some-pairs test (e ∷ es) = go (test e.0) (is_some-pairs test es)
   where
     go : (b : Bool) → is_some (lookup test es) ≡ is_some (lookup test (map pair_of es))
-        → is_some (cond b (Some e.1) (lookup test es)) ≡ is_some (cond b (Some e.1.items) (lookup test (map pair_of es)))
+        → is_some (cond b (Some e.1) (lookup test es))
+        ≡ is_some (cond b (Some e.1.items) (lookup test (map pair_of es)))
     go true rest = refl
     go false rest = rest
 
@@ -37,27 +40,30 @@ lookup_entry-pairs test [] = refl
 lookup_entry-pairs test (e ∷ es) = go (test e.0) (lookup_entry-pairs test es)
   where
     go : (b : Bool) → lookup_entry test (map pair_of es) ≡ option_map pair_of (lookup_entry test es)
-        → cond b (Some (pair_of e)) (lookup_entry test (map pair_of es)) ≡ option_map pair_of (cond b (Some e) (lookup_entry test es))
+        → cond b (Some (pair_of e)) (lookup_entry test (map pair_of es))
+        ≡ option_map pair_of (cond b (Some e) (lookup_entry test es))
     go true rest = refl
     go false rest = rest
 
 found : {K X : Type 0} (test : K → Bool) (es : List (K × X)) (e : K × X) → lookup_entry test es ≡ Some e
     → (test e.0 ≡ true) × (lookup test es ≡ Some e.1)
 found test [] e is = cc
-found test (x ∷ es) e is = (elim (test x.0) as (λ b. test x.0 ≡ b → (test e.0 ≡ true) × (lookup test (x ∷ es) ≡ Some e.1)) [
-  | true ↦ λ t. let here = rw t at is in let same : x ≡ e = cc in (ap (λ y. test y.0) (sym same) ∙ t, rw (t, same) refl)
-  | false ↦ λ t. let on = found test es e (rw t at is) in (on.0, rw t on.1)
-]) refl
+found test (x ∷ es) e is = (elim (test x.0)
+    as (λ b. test x.0 ≡ b → (test e.0 ≡ true) × (lookup test (x ∷ es) ≡ Some e.1)) [
+      | true ↦ λ t. let here = rw t at is in let same : x ≡ e = cc in (ap (λ y. test y.0) (sym same) ∙ t, rw (t, same) refl)
+      | false ↦ λ t. let on = found test es e (rw t at is) in (on.0, rw t on.1)
+    ]) refl
 
 -- a key that isn't there isn't in a front
 none-take : (test : Key → Bool) (n : ℕ) (es : List Entry) → lookup test (map pair_of es) ≡ None
     → lookup_entry test (take n es) ≡ None
 none-take test zero es none = refl
 none-take test (suc n) [] none = refl
-none-take test (suc n) (e ∷ es) none = (elim (test e.0) as (λ b. test e.0 ≡ b → lookup_entry test (take (suc n) (e ∷ es)) ≡ None) [
-  | true ↦ λ t. let bad = rw t at none in cc
-  | false ↦ λ t. rw t (none-take test n es (rw t at none))
-]) refl
+none-take test (suc n) (e ∷ es) none = (elim (test e.0)
+    as (λ b. test e.0 ≡ b → lookup_entry test (take (suc n) (e ∷ es)) ≡ None) [
+      | true ↦ λ t. let bad = rw t at none in cc
+      | false ↦ λ t. rw t (none-take test n es (rw t at none))
+    ]) refl
 
 -- ---- bringing to the front
 
@@ -67,15 +73,17 @@ remove_entry-pairs test [] = refl
 remove_entry-pairs test (e ∷ es) = go (test e.0) (remove_entry-pairs test es)
   where
     go : (b : Bool) → remove_entry test (map pair_of es) ≡ map pair_of (remove_entry test es)
-        → cond b (map pair_of es) (pair_of e ∷ remove_entry test (map pair_of es)) ≡ map pair_of (cond b es (e ∷ remove_entry test es))
+        → cond b (map pair_of es) (pair_of e ∷ remove_entry test (map pair_of es))
+        ≡ map pair_of (cond b es (e ∷ remove_entry test es))
     go true rest = refl
     go false rest = ap (λ ps. pair_of e ∷ ps) rest
 
 pub promoted-pairs : (test : Key → Bool) (es : List Entry)
     → map pair_of (promoted test es) ≡ promoted test (map pair_of es)
 promoted-pairs test es =
-    go (lookup_entry test es)
-    ∙ ap (λ (o : Option Pair). option_map_or (λ p. p ∷ remove_entry test (map pair_of es)) o (map pair_of es)) (sym (lookup_entry-pairs test es))
+    let ps = map pair_of es in
+    let front : Option Pair → List Pair = λ o. option_map_or (λ p. p ∷ remove_entry test ps) o ps in
+    go (lookup_entry test es) ∙ ap front (sym (lookup_entry-pairs test es))
   where
     go : (o : Option Entry) → map pair_of (option_map_or (λ e. e ∷ remove_entry test es) o es)
         ≡ option_map_or (λ p. p ∷ remove_entry test (map pair_of es)) (option_map pair_of o) (map pair_of es)
@@ -86,12 +94,13 @@ promoted-pairs test es =
 found_and_rest : (f : Entry → ℕ) (test : Key → Bool) (es : List Entry) (e : Entry) → lookup_entry test es ≡ Some e
     → f e + sum_by f (remove_entry test es) ≡ sum_by f es
 found_and_rest f test [] e is = cc
-found_and_rest f test (x ∷ es) e is = (elim (test x.0) as (λ b. test x.0 ≡ b → f e + sum_by f (remove_entry test (x ∷ es)) ≡ sum_by f (x ∷ es)) [
-  | true ↦ λ t. let here = rw t at is in let same : x ≡ e = cc in rw (t, sum_by-cons f x es, ← same) refl
-  | false ↦ λ t.
-      let on = found_and_rest f test es e (rw t at is) in
-      rw (t, sum_by-cons f x es, sum_by-cons f x (remove_entry test es)) (omega (arith, on))
-]) refl
+found_and_rest f test (x ∷ es) e is = (elim (test x.0)
+    as (λ b. test x.0 ≡ b → f e + sum_by f (remove_entry test (x ∷ es)) ≡ sum_by f (x ∷ es)) [
+      | true ↦ λ t. let here = rw t at is in let same : x ≡ e = cc in rw (t, sum_by-cons f x es, ← same) refl
+      | false ↦ λ t.
+          let on = found_and_rest f test es e (rw t at is) in
+          rw (t, sum_by-cons f x es, sum_by-cons f x (remove_entry test es)) (omega (arith, on))
+    ]) refl
 
 pub sum_by-promoted : (f : Entry → ℕ) (test : Key → Bool) (es : List Entry) → sum_by f (promoted test es) ≡ sum_by f es
 sum_by-promoted f test es = go (lookup_entry test es) refl
@@ -104,10 +113,11 @@ sum_by-promoted f test es = go (lookup_entry test es) refl
 found_length : (test : Key → Bool) (es : List Entry) (e : Entry) → lookup_entry test es ≡ Some e
     → suc (length (remove_entry test es)) ≡ length es
 found_length test [] e is = cc
-found_length test (x ∷ es) e is = (elim (test x.0) as (λ b. test x.0 ≡ b → suc (length (remove_entry test (x ∷ es))) ≡ length (x ∷ es)) [
-  | true ↦ λ t. rw t refl
-  | false ↦ λ t. let on = found_length test es e (rw t at is) in rw t (ap suc on)
-]) refl
+found_length test (x ∷ es) e is = (elim (test x.0)
+    as (λ b. test x.0 ≡ b → suc (length (remove_entry test (x ∷ es))) ≡ length (x ∷ es)) [
+      | true ↦ λ t. rw t refl
+      | false ↦ λ t. let on = found_length test es e (rw t at is) in rw t (ap suc on)
+    ]) refl
 
 pub length-promoted : (test : Key → Bool) (es : List Entry) → length (promoted test es) ≡ length es
 length-promoted test es = go (lookup_entry test es) refl
@@ -118,7 +128,8 @@ length-promoted test es = go (lookup_entry test es) refl
     go (Some e) is = found_length test es e is
 
 -- a key finds the same once its pair is in front
-pub lookup-promoted : {K X : Type 0} (test : K → Bool) (es : List (K × X)) → lookup test (promoted test es) ≡ lookup test es
+pub lookup-promoted : {K X : Type 0} (test : K → Bool) (es : List (K × X))
+    → lookup test (promoted test es) ≡ lookup test es
 lookup-promoted {K} {X} test es = go (lookup_entry test es) refl
   where
     go : (o : Option (K × X)) → lookup_entry test es ≡ o
@@ -188,4 +199,5 @@ stored slots budget n es left k cell same fits is =
 pub sizes-after_put : (c : Cache) (key : Key) (cell : List ℕ) → sizes (after_put key cell c).pairs
     ≡ put_in (λ (item : Key × ℕ). item.1) c.slots c.budget (key, length cell) (sizes c.pairs)
 sizes-after_put c key cell =
-    put_in-map (λ (pair : Pair). (pair.0, size pair)) size (λ (item : Key × ℕ). item.1) (λ pair. refl) c.slots c.budget (key, cell) c.pairs
+    let item_of : Pair → Key × ℕ = λ pair. (pair.0, size pair) in
+    put_in-map item_of size (λ (item : Key × ℕ). item.1) (λ pair. refl) c.slots c.budget (key, cell) c.pairs

@@ -1,5 +1,6 @@
 -- What is kept of a list from which the last are dropped until there is room for one more.
-use Rattle.std.proofs.Common.{◌≡◌, ◌∙◌, ◌+◌, ◌<◌, ◌≤◌, ℕ, zero, suc, Bool, true, false, cond, List, [], ◌∷◌, length, take, map, refl, sym, ap, arith, nat_le, nat_lt, ltb-true}
+use Rattle.std.proofs.Common.{◌≡◌, ◌∙◌, ◌+◌, ◌<◌, ◌≤◌, ℕ, zero, suc, Bool, true, false, cond, nat_le, nat_lt, ltb-true}
+use Rattle.std.proofs.Common.{List, [], ◌∷◌, length, take, map, refl, sym, ap, arith}
 use borrow.Author.Tests.{leb-true}
 use Rattle.std.specs.List.{sum_by}
 use Rattle.std.proofs.lemmas.Bool.{and_parts}
@@ -38,7 +39,8 @@ dropped_until-map : {X Y : Type 0} (f : X → Y) (p : List X → Bool) (q : List
 unfolding dropped_until
 dropped_until-map f p q same zero xs = refl
 dropped_until-map f p q same (suc n) xs =
-    go (p (take (suc n) xs)) (same (take (suc n) xs) ∙ ap q (sym (take-map f (suc n) xs))) (dropped_until-map f p q same n xs)
+    let front = take (suc n) xs in
+    go (p front) (same front ∙ ap q (sym (take-map f (suc n) xs))) (dropped_until-map f p q same n xs)
   where
     go : (b : Bool) → b ≡ q (take (suc n) (map f xs)) → map f (dropped_until p n xs) ≡ dropped_until q n (map f xs)
         → map f (cond b (take (suc n) xs) (dropped_until p n xs))
@@ -56,19 +58,23 @@ module _ {X Y : Type 0} (f : X → Y) (of_x : X → ℕ) (of_y : Y → ℕ) (sam
       let here = same x in
       sum_by-cons of_y (f x) (map f xs) ∙ rw (here, rest) (sym (sum_by-cons of_x x xs))
 
-  room-map : (slots budget n : ℕ) (xs : List X) → has_room of_x slots budget n xs ≡ has_room of_y slots budget n (map f xs)
+  room-map : (slots budget n : ℕ) (xs : List X)
+      → has_room of_x slots budget n xs ≡ has_room of_y slots budget n (map f xs)
   room-map slots budget n xs = rw (sum_by-kept xs, length-map xs f) refl
 
   pub kept-map : (slots budget n : ℕ) (xs : List X)
       → map f (kept of_x slots budget n xs) ≡ kept of_y slots budget n (map f xs)
   kept-map slots budget n xs =
-      dropped_until-map f (has_room of_x slots budget n) (has_room of_y slots budget n) (room-map slots budget n) (length xs) xs
-      ∙ ap (λ (k : ℕ). dropped_until (has_room of_y slots budget n) k (map f xs)) (sym (length-map xs f))
+      let p = has_room of_x slots budget n in
+      let q = has_room of_y slots budget n in
+      dropped_until-map f p q (room-map slots budget n) (length xs) xs
+      ∙ ap (λ (k : ℕ). dropped_until q k (map f xs)) (sym (length-map xs f))
 
   pub put_in-map : (slots budget : ℕ) (x : X) (xs : List X)
       → map f (put_in of_x slots budget x xs) ≡ put_in of_y slots budget (f x) (map f xs)
   put_in-map slots budget x xs =
-      go (nat_le (of_x x) budget) ∙ ap (λ (n : ℕ). cond (nat_le n budget) (f x ∷ kept of_y slots budget n (map f xs)) (map f xs)) (sym (same x))
+      let put : ℕ → List Y = λ n. cond (nat_le n budget) (f x ∷ kept of_y slots budget n (map f xs)) (map f xs) in
+      go (nat_le (of_x x) budget) ∙ ap put (sym (same x))
     where
       go : (b : Bool) → map f (cond b (x ∷ kept of_x slots budget (of_x x) xs) xs)
           ≡ cond b (f x ∷ kept of_y slots budget (of_x x) (map f xs)) (map f xs)

@@ -1,7 +1,8 @@
 //! Cells of samples under a budget, the most recent first.
 #![tactic(auto)]
 
-ghost use Rattle.std.specs.Prelude.{◌≡◌, ◌≤◌, ◌<◌, ◌^◌, ◌↔◌, true, IsTrue, [], IfOk, OnOk, OnErr, None, is_some, length, option_map};
+ghost use Rattle.std.specs.Prelude.{◌≡◌, ◌≤◌, ◌<◌, ◌^◌, ◌↔◌, true, IsTrue, [], length};
+ghost use Rattle.std.specs.Prelude.{IfOk, OnOk, OnErr, None, is_some, option_map};
 ghost use Rattle.std.specs.Borrow.{sem};
 ghost use Rattle.std.specs.List.{sum_by, IsDistinct};
 ghost use Rattle.std.specs.Map.{lookup, keys_of};

@@ -35,8 +35,8 @@ fn put_new(alloc: Global, cache: &mut TileCache, cell: u32, size: usize) -> Resu
 // Takes the steps, and compares the cells that are held after each, and how many samples they have.
 fn take_steps(
     rt: &impl Abort,
-    mut cache: TileCache,
     alloc: Global,
+    mut cache: TileCache,
     steps: &[(Step, &[u32], u64)],
 ) -> Result<(), AllocError> {
     for (step, cells, total) in steps {
@@ -55,40 +55,34 @@ fn take_steps(
 
 #[test]
 fn drops_the_last_until_the_new_one_fits(rt: HostRuntime) -> Result<(), Fail> {
-    let alloc = rt.alloc();
-    let two = TileCache::new(alloc, 2, 10)?;
-    take_steps(
-        &rt,
-        two,
-        alloc,
-        &[
-            (Put(1, 6), &[1], 6),
-            (Put(2, 4), &[2, 1], 10),
-            (Put(3, 11), &[2, 1], 10),
-            (Get(1), &[1, 2], 10),
-            (Put(4, 4), &[4, 1], 10),
-            (Get(3), &[4, 1], 10),
-            // A cell of the whole budget, and one of no samples.
-            (Put(5, 10), &[5], 10),
-            (Put(6, 0), &[6, 5], 10),
-            (Put(7, 0), &[7, 6], 0),
-        ],
-    )?;
-    let one = TileCache::new(alloc, 1, 10)?;
-    take_steps(
-        &rt,
-        one,
-        alloc,
-        &[(Put(1, 3), &[1], 3), (Put(2, 3), &[2], 3)],
-    )?;
-    let none = TileCache::new(alloc, 2, 0)?;
-    take_steps(
-        &rt,
-        none,
-        alloc,
-        &[(Put(1, 1), &[], 0), (Put(2, 0), &[2], 0)],
-    )?;
-    Ok(())
+    let cache = TileCache::new(rt.alloc(), 2, 10)?;
+    let steps: [(Step, &[u32], u64); 9] = [
+        (Put(1, 6), &[1], 6),
+        (Put(2, 4), &[2, 1], 10),
+        (Put(3, 11), &[2, 1], 10),
+        (Get(1), &[1, 2], 10),
+        (Put(4, 4), &[4, 1], 10),
+        (Get(3), &[4, 1], 10),
+        // A cell of the whole budget, and one of no samples.
+        (Put(5, 10), &[5], 10),
+        (Put(6, 0), &[6, 5], 10),
+        (Put(7, 0), &[7, 6], 0),
+    ];
+    Ok(take_steps(&rt, rt.alloc(), cache, &steps)?)
+}
+
+#[test]
+fn holds_one_cell_in_one_slot(rt: HostRuntime) -> Result<(), Fail> {
+    let cache = TileCache::new(rt.alloc(), 1, 10)?;
+    let steps: [(Step, &[u32], u64); 2] = [(Put(1, 3), &[1], 3), (Put(2, 3), &[2], 3)];
+    Ok(take_steps(&rt, rt.alloc(), cache, &steps)?)
+}
+
+#[test]
+fn holds_only_empty_cells_under_no_budget(rt: HostRuntime) -> Result<(), Fail> {
+    let cache = TileCache::new(rt.alloc(), 2, 0)?;
+    let steps: [(Step, &[u32], u64); 2] = [(Put(1, 1), &[], 0), (Put(2, 0), &[2], 0)];
+    Ok(take_steps(&rt, rt.alloc(), cache, &steps)?)
 }
 
 // A caller that looks at a cell and goes on with the cache.

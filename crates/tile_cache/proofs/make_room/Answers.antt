@@ -23,8 +23,10 @@ drops-preserved c =
     let sum = popped entry_size es last (sym c.in-Some.ensures.value) in
     let count : length (take (length es - 1) es) ≡ length es - 1 = length-take-le (length es - 1) es (omega arith) in
     let part : take (length es - 1) es ≡ take (length es - 1) all =
-    ap (λ (xs : List Entry). take (length es - 1) xs) c.drops.invariant.front ∙ take-less (length es - 1) (length es) all (omega arith) in
-    let full : p (take (length es) all) ≡ false = ap p (sym c.drops.invariant.front) ∙ (sym c.has_room_for.ensures ∙ c.drops-test.true) in
+    ap (λ (xs : List Entry). take (length es - 1) xs) c.drops.invariant.front
+    ∙ take-less (length es - 1) (length es) all (omega arith) in
+    let full : p (take (length es) all) ≡ false =
+    ap p (sym c.drops.invariant.front) ∙ (sym c.has_room_for.ensures ∙ c.drops-test.true) in
     let less = dropped_until_less p (length es) (length es - 1) all (omega arith) full in
     rw (c.pop_lru.ensures.entries, count) (record {
       front = part;
@@ -40,7 +42,8 @@ returns-clause-entries c =
     let es = c.drops.cells.entries in
     let all = c.args.cells.now.entries in
     let p = has_room entry_size c.args.slots c.args.budget c.args.size in
-    let room : p (take (length es) all) ≡ true = ap p (sym c.drops.invariant.front) ∙ (sym c.has_room_for.ensures ∙ c.drops-test.false) in
+    let room : p (take (length es) all) ≡ true =
+    ap p (sym c.drops.invariant.front) ∙ (sym c.has_room_for.ensures ∙ c.drops-test.false) in
     let same : es ≡ kept entry_size c.args.slots c.args.budget c.args.size all =
     c.drops.invariant.front ∙ (sym (dropped_until_done p (length es) all room) ∙ c.drops.invariant.same) in
     ap (λ (xs : List Entry). lru_cache xs c.drops.cells.cap) same

@@ -22,5 +22,6 @@ invariant_of-self c =
 pub returns : goal.returns
 returns c =
     let test = same_key c.args.key.now in
+    let same = promoted-pairs test c.self.inside.cells.entries in
     rw (← c.self.view_is, c.promote.ensures.entries)
-    (ap (λ (ps : List Pair). cache ps c.self.inside.slots c.self.inside.budget) (promoted-pairs test c.self.inside.cells.entries))
+    (ap (λ (ps : List Pair). cache ps c.self.inside.slots c.self.inside.budget) same)

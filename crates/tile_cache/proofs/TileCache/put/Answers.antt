@@ -11,8 +11,8 @@ use Rattle.tile_cache.proofs.TileCache.put.Goals as goal
 use Rattle.tile_cache.proofs.TileCache.put.Goals.{Joined-put-2}
 
 -- the new pair stands in front of those that were kept
-in_front : (c : Joined-put-2) → c.put.new.self
-    ≡ lru_cache ((c.args.key, c.args.cell) ∷ c.make_room-self-inside.new.cells.entries) c.make_room-self-inside.new.cells.cap
+in_front : (c : Joined-put-2) → let cells = c.make_room-self-inside.new.cells in
+    c.put.new.self ≡ lru_cache ((c.args.key, c.args.cell) ∷ cells.entries) cells.cap
 in_front c =
     let cells = c.make_room-self-inside.new.cells in
     let es = c.self.inside.cells.entries in
@@ -25,7 +25,8 @@ in_front c =
     let cap = ap (λ x. x.cap) c.make_room-self-inside.ensures.entries ∙ c.self.invariant.room in
     let room = room_parts entry_size slots budget n cells.entries c.make_room-self-inside.ensures.room in
     let short : length cells.entries < cells.cap = omega (arith, room.1, cap) in
-    c.in-Ok.ensures.entries ∙ ap (λ (xs : List Entry). lru_cache xs cells.cap) (put_front cells c.args.key c.args.cell none short)
+    let all = put_front cells c.args.key c.args.cell none short in
+    c.in-Ok.ensures.entries ∙ ap (λ (xs : List Entry). lru_cache xs cells.cap) all
 
 pub invariant_of-self : goal.invariant_of-self
 invariant_of-self c =
@@ -64,4 +65,5 @@ returns-clause-refused c =
 
 pub returns-in-Ok-clause-sizes : goal.returns-in-Ok-clause-sizes
 returns-in-Ok-clause-sizes c =
-    ap (λ (x : Cache). sizes x.pairs) (returns-in-Ok-clause-stored c) ∙ sizes-after_put c.args.self.now c.args.key c.args.cell.items
+    ap (λ (x : Cache). sizes x.pairs) (returns-in-Ok-clause-stored c)
+    ∙ sizes-after_put c.args.self.now c.args.key c.args.cell.items
