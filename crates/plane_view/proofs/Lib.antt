@@ -5,5 +5,6 @@ pub mod Loans
 pub mod Parts
 pub mod Pixels
 pub mod Reflections
+pub mod Runs
 pub mod Samples
 pub mod Writes

@@ -1,0 +1,2 @@
+pub mod Crops
+pub mod CropLaws
