@@ -3,10 +3,12 @@
 
 mod command;
 mod line;
+mod settings;
 mod word;
 
 pub use command::{Command, Format, LineFault, MAX_LINE_BYTES};
 pub use line::split_line;
+pub use settings::{Change, MatrixChoice, Settings};
 
 #[cfg(test)]
 mod tests;

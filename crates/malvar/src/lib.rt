@@ -17,6 +17,15 @@ use filters::RowSites;
 use plane_view::{Rect, TileMut, reflect};
 use rows::{Window, fill};
 
+/// How the two colours that a pixel lacks are found.
+#[derive(Clone, Copy, Debug, PartialEq, Eq)]
+pub enum Kind {
+    /// Malvar, He and Cutler's sums, which also weigh the pixel's own colour.
+    Malvar,
+    /// The mean of the nearest samples of the colour.
+    Bilinear,
+}
+
 /// Row `r` of a plane, reflected if it is outside.
 fn row_of(plane: &[u16], rows: u32, cols: u32, r: i64) -> &[u16]
     requires rows { 4 ≤ rows × rows ≤ 8192 }
