@@ -1,16 +1,25 @@
--- The frame definition at work on a flat frame of 4 by 4 samples, 154 bytes.
-use Rattle.std.proofs.Common.{◌≡◌, ℕ, List, [], ◌∷◌, ◌++◌, take, drop, Ok, Err, refl}
-use Rattle.plane_view.specs.Plane.{samples_of}
+-- The frame definition at work on a flat frame of 4 by 4 samples, 154 bytes, and on parts of it.
+use Rattle.std.proofs.Common.{◌≡◌, ℕ, ℤ, pos, negsuc, List, [], ◌∷◌, ◌++◌, take, drop, Ok, Err, Some, None, refl, true, false}
 use Rattle.tiff_dirs.specs.Entries.{entries, entry_of, field_of, field_or_fault, slot_at, value_fits, value_place, value_size}
-use Rattle.tiff_dirs.specs.Header.{directory_fits, entry_count, first_directory, has_header, is_big, is_little, order_of}
+use Rattle.tiff_dirs.specs.Header.{directory_fits, directory_of, entry_count, first_directory, has_header, is_big, is_little, open_of, order_of}
 use Rattle.tiff_dirs.specs.Kinds.{size_of}
 use Rattle.tiff_dirs.specs.Numbers.{number_at}
-use Rattle.tiff_dirs.specs.Values.{number_in}
+use Rattle.tiff_dirs.specs.Values.{number_in, rational_in}
 use Rattle.tiff_dirs.specs.declared.Order.TheVariants.{Little}
-use Rattle.dng_tags.specs.Frame.{frame_of, frame_steps, has_plain_numbers, has_plain_sizes, has_plain_tags, is_plain, lacks_other_tags, number, plain_frame}
-use Rattle.dng_tags.specs.Raw.{raw}
-use Rattle.dng_tags.specs.declared.frame.Frame.{Frame}
-use Rattle.dng_tags.specs.declared.frame.FrameFault.TheVariants.{NotTiff, BadDirectory, NotYet, Outside}
+use Rattle.dng_tags.specs.Area.{active_of, crop_of, crop_rect, extent_of, large_enough}
+use Rattle.dng_tags.specs.Black.{black_at, greatest_black, levels_of, levels_under, repeat_of, span_of, spanning, table_of, white_of}
+use Rattle.dng_tags.specs.Built.{are_plain_colours, are_plain_levels, is_built, is_one_strip}
+use Rattle.dng_tags.specs.Colours.{analog_of, calibration_in, calibration_of, colour_of, gain_of, gains_from, gains_in, gains_of, is_diagonal, matrix_in, matrix_of}
+use Rattle.dng_tags.specs.Form.{depth_of, form_of, format_of, lossless_of, number_or, photometric_of, required_number_of, samples_per_pixel_of, shape_of, side_of}
+use Rattle.dng_tags.specs.Frame.{frame_of, lacks, record_of, without_opcodes_of}
+use Rattle.dng_tags.specs.Layout.{checked_layout, checked_tile_side, layout_of, rect_at, required_numbers_of, segment_at, segments_in, segments_of, strip_rows_of, strips_of, tiles_of}
+use Rattle.dng_tags.specs.Origin.{first_raw, needed_version_of, origin_of, raw_directory_of, subfile_type_at, tiff_of, version_of}
+use Rattle.dng_tags.specs.Pattern.{colours_of, has_plane_colours, has_square_layout, pattern_of, pattern_size_of}
+use Rattle.dng_tags.specs.Quantities.{in_parts, is_on, level_scale, on_scale}
+use Rattle.dng_tags.specs.Values.{field_at, fractions_in, fractions_of, number_of, numbers_at, numbers_in, numbers_of}
+use Rattle.dng_tags.specs.declared.faults.FrameFault.TheVariants.{BadDirectory, NotTiff, Outside}
+use Rattle.dng_tags.specs.declared.record.Frame.{Frame}
+use Rattle.dng_tags.specs.declared.record.Levels.{Levels}
 
 -- the header and the count; nine entries; the next directory's offset; the strip
 abbrev flat : List ℕ
@@ -29,30 +38,74 @@ flat =
     ∷ 0x34 ∷ 0x12 ∷ 0x34 ∷ 0x12 ∷ 0x34 ∷ 0x12 ∷ 0x34 ∷ 0x12 ∷ 0x34 ∷ 0x12 ∷ 0x34 ∷ 0x12 ∷ 0x34 ∷ 0x12 ∷ 0x34 ∷ 0x12
     ∷ 0x34 ∷ 0x12 ∷ 0x34 ∷ 0x12 ∷ 0x34 ∷ 0x12 ∷ 0x34 ∷ 0x12 ∷ 0x34 ∷ 0x12 ∷ 0x34 ∷ 0x12 ∷ 0x34 ∷ 0x12 ∷ 0x34 ∷ 0x12 ∷ []
 
+abbrev ones : List ℤ
+ones = pos 65536 ∷ pos 65536 ∷ pos 65536 ∷ []
+
+-- every default of a frame that has no more than it must
 abbrev flat_record : Frame
-flat_record = record { rows = 4; cols = 4; order = Little; strip = record { at = 122; length = 32 }; cfa = 0 ∷ 1 ∷ 1 ∷ 2 ∷ [] }
+flat_record = record {
+  shape = record { rows = 4; cols = 4; planes = 1 };
+  depth = 16;
+  lossless = false;
+  order = Little;
+  segments = record { at = 122; length = 32; rect = record { top = 0; left = 0; bottom = 4; right = 4 }; full_rows = 4; full_cols = 4 } ∷ [];
+  cfa = 0 ∷ 1 ∷ 1 ∷ 2 ∷ [];
+  active = record { top = 0; left = 0; bottom = 4; right = 4 };
+  levels = record { table = []; black_rows = 1; black_cols = 1; black = pos 0 ∷ []; delta_h = []; delta_v = []; white = 65535 };
+  crop = record { top = 0; left = 0; bottom = 4; right = 4 };
+  colour = record {
+    gains = 4096 ∷ 4096 ∷ 4096 ∷ [];
+    forward1 = None;
+    forward2 = None;
+    matrix1 = None;
+    matrix2 = None;
+    analog = ones;
+    calibration1 = ones;
+    calibration2 = ones;
+  };
+}
 
 flat-frame : frame_of flat ≡ Ok flat_record
-unfolding frame_of frame_steps is_plain has_plain_tags lacks_other_tags has_plain_numbers has_plain_sizes plain_frame number order_of is_big is_little has_header first_directory directory_fits entry_count number_at entry_of entries field_or_fault field_of value_fits value_size value_place slot_at size_of number_in
+unfolding frame_of record_of tiff_of open_of origin_of version_of needed_version_of raw_directory_of subfile_type_at form_of photometric_of lossless_of samples_per_pixel_of depth_of format_of shape_of side_of required_number_of number_or segments_of layout_of strips_of strip_rows_of required_numbers_of checked_layout segments_in segment_at rect_at pattern_of pattern_size_of colours_of has_plane_colours has_square_layout without_opcodes_of lacks active_of large_enough levels_of table_of repeat_of levels_under white_of spanning span_of greatest_black crop_of extent_of colour_of matrix_of calibration_of analog_of gains_of numbers_of number_of numbers_at fractions_of field_at numbers_in fractions_in order_of is_big is_little has_header first_directory directory_fits entry_count number_at entry_of entries field_or_fault field_of value_fits value_size value_place slot_at size_of number_in
 flat-frame = refl
 
-flat-raw : raw flat flat_record ≡ record { rows = 4; cols = 4; planes = 1; samples = 4660 ∷ 4660 ∷ 4660 ∷ 4660 ∷ 4660 ∷ 4660 ∷ 4660 ∷ 4660 ∷ 4660 ∷ 4660 ∷ 4660 ∷ 4660 ∷ 4660 ∷ 4660 ∷ 4660 ∷ 4660 ∷ [] }
-unfolding samples_of order_of is_big number_at
-flat-raw = refl
+flat-built : is_built flat_record ≡ true
+unfolding is_built is_one_strip are_plain_levels are_plain_colours
+flat-built = refl
 
-cut-outside : frame_of (take 153 flat) ≡ Err (Outside 0)
-unfolding frame_of frame_steps is_plain has_plain_tags lacks_other_tags has_plain_numbers has_plain_sizes plain_frame number order_of is_big is_little has_header first_directory directory_fits entry_count number_at entry_of entries field_or_fault field_of value_fits value_size value_place slot_at size_of number_in
-cut-outside = refl
+-- one byte fewer, and a shorter file
+flat-outside : frame_of (take 153 flat) ≡ Err (Outside 0)
+unfolding frame_of record_of tiff_of open_of origin_of version_of needed_version_of raw_directory_of subfile_type_at form_of photometric_of lossless_of samples_per_pixel_of depth_of format_of shape_of side_of required_number_of number_or segments_of layout_of strips_of strip_rows_of required_numbers_of checked_layout segments_in segment_at rect_at numbers_of number_of numbers_at field_at numbers_in order_of is_big is_little has_header first_directory directory_fits entry_count number_at entry_of entries field_or_fault field_of value_fits value_size value_place slot_at size_of number_in
+flat-outside = refl
 
--- a depth of 12, also where the strip passes the end
-depth-not_yet : frame_of (take 42 flat ++ 12 ∷ drop 43 (take 153 flat)) ≡ Err NotYet
-unfolding frame_of frame_steps is_plain has_plain_tags lacks_other_tags has_plain_numbers has_plain_sizes plain_frame number order_of is_big is_little has_header first_directory directory_fits entry_count number_at entry_of entries field_or_fault field_of value_fits value_size value_place slot_at size_of number_in
-depth-not_yet = refl
+flat-no-directory : frame_of (take 9 flat) ≡ Err (BadDirectory 8)
+unfolding frame_of tiff_of open_of order_of is_big is_little has_header first_directory directory_fits entry_count number_at
+flat-no-directory = refl
 
-cut-bad_directory : frame_of (take 117 flat) ≡ Err (BadDirectory 8)
-unfolding frame_of frame_steps has_header order_of is_big is_little first_directory directory_fits entry_count number_at
-cut-bad_directory = refl
+flat-no-header : frame_of (take 7 flat) ≡ Err NotTiff
+unfolding frame_of tiff_of open_of order_of is_big is_little has_header
+flat-no-header = refl
 
-empty-not_tiff : frame_of [] ≡ Err NotTiff
-unfolding frame_of frame_steps has_header order_of is_big is_little first_directory directory_fits entry_count number_at
-empty-not_tiff = refl
+-- a neutral of 1/2, 1, 2/3
+neutral-gains : gains_in (Some ((pos 1, pos 2) ∷ (pos 1, pos 1) ∷ (pos 2, pos 3) ∷ [])) ≡ Ok (8192 ∷ 4096 ∷ 6144 ∷ [])
+unfolding gains_from gain_of in_parts
+neutral-gains = refl
+
+-- -1/512, 1/512 and 1/1024 in 256ths: halves are rounded up
+halves : (in_parts 256 (negsuc 0, pos 512) ≡ pos 0) × (in_parts 256 (pos 1, pos 512) ≡ pos 1) × (in_parts 256 (pos 1, pos 1024) ≡ pos 0)
+unfolding in_parts
+halves = (refl, refl, refl)
+
+-- nine rows in strips of four, and a tile past the right edge
+strips-cut : (rect_at (record { rows = 9; cols = 5; planes = 1 }) (record { rows = 4; cols = 5; padded = false }) 2 ≡ record { top = 8; left = 0; bottom = 9; right = 5 })
+    × (rect_at (record { rows = 9; cols = 5; planes = 1 }) (record { rows = 16; cols = 3; padded = true }) 1 ≡ record { top = 0; left = 3; bottom = 9; right = 5 })
+unfolding rect_at
+strips-cut = (refl, refl)
+
+-- the greatest black level is looked for in the whole area
+abbrev two_rows : Levels
+two_rows = record { table = []; black_rows = 2; black_cols = 1; black = pos 256 ∷ pos 512 ∷ []; delta_h = pos 1 ∷ pos 9 ∷ negsuc 3 ∷ []; delta_v = []; white = 4 }
+
+greatest-of-area : (greatest_black two_rows 2 3 ≡ pos 521) × (greatest_black two_rows 1 3 ≡ pos 265) × (span_of two_rows 2 3 ≡ pos 503)
+unfolding greatest_black span_of
+greatest-of-area = (refl, refl, refl)

@@ -1,3 +1,15 @@
+pub mod Answers
+pub mod Area
+pub mod Black
+pub mod Built
+pub mod Colours
+pub mod Facts
+pub mod FaultText
+pub mod Form
 pub mod Frame
-pub mod Raw
-pub mod Steps
+pub mod Layout
+pub mod Origin
+pub mod Pattern
+pub mod Quantities
+pub mod Tags
+pub mod Values

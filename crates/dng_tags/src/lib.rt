@@ -1,11 +1,16 @@
 //! What a DNG file says of its frame (TIFF 6.0; DNG 1.6, chapter 4).
-//!
-//! [`read_frame`] reads the record of an accepted frame, or says why the frame is refused.
 #![tactic(auto)]
 
-mod frame;
-mod plain;
-#[cfg(test)]
-mod tests;
+mod area;
+mod black;
+mod faults;
+mod form;
+mod layout;
+mod origin;
+mod quantities;
+mod record;
+mod tags;
+mod values;
 
-pub use frame::{Frame, FrameFault, MAX_BYTES, Segment, read_frame};
+pub use faults::{FrameFault, SegmentFault};
+pub use record::{Colour, Frame, Levels, Segment};

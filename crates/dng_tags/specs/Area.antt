@@ -1,0 +1,78 @@
+-- The groups of the active area, of the size at demosaicing and of the default crop (DNG 1.6, chapter 4, "ActiveArea",
+-- "DefaultCropOrigin", "DefaultCropSize"). The rounding and the smallest size are this project's own.
+use Rattle.std.specs.Prelude.{ℕ, ◌-◌, nat_le, nat_lt, ◌&&◌, if◌then◌else◌, ℤ, pos, ◌+ℤ◌, ◌-ℤ◌, int_le, int_lt, Bool, List, slice_index, slice_index_or, Option, None, Some, Result, Ok, Err, unsigned_abs}
+use Rattle.std.specs.Int.{int_div_euclid, int_max, int_min}
+use Rattle.std.specs.Option.{option_map_or}
+use Rattle.plane_view.specs.Rectangles.{height, whole_rect, width}
+use Rattle.plane_view.specs.declared.Rect.{Rect}
+use Rattle.plane_view.specs.declared.Shape.{Shape}
+use Rattle.dng_tags.specs.Answers.{and_then}
+use Rattle.dng_tags.specs.Values.{Dirs, fractions_of, numbers_of}
+use Rattle.dng_tags.specs.declared.area.Extent.{Extent}
+use Rattle.dng_tags.specs.declared.faults.FrameFault.{FrameFault}
+use Rattle.dng_tags.specs.declared.faults.FrameFault.TheVariants.{Active, Crop, Size}
+use Rattle.dng_tags.specs.declared.tags.Tag.{Tag}
+use Rattle.dng_tags.specs.declared.tags.Tag.TheVariants.{ActiveArea, DefaultCropOrigin, DefaultCropSize}
+
+-- top, left, bottom, right
+abbrev pub rect_in : List ℕ → Rect
+rect_in xs =
+    record { top = slice_index xs 0; left = slice_index xs 1; bottom = slice_index xs 2; right = slice_index xs 3 }
+
+-- whether a rectangle has a pixel
+abbrev pub has_pixels : Rect → Bool
+has_pixels rect = nat_lt rect.top rect.bottom && nat_lt rect.left rect.right
+
+-- the active area: the whole image where nothing is told
+unfoldable pub active_of : Dirs → Shape → Result Rect FrameFault
+active_of dirs shape =
+    and_then (numbers_of dirs ActiveArea) (λ found.
+    let active = option_map_or rect_in found (whole_rect shape.rows shape.cols) in
+    if has_pixels active && nat_le active.bottom shape.rows && nat_le active.right shape.cols
+    then Ok active else Err Active)
+
+-- an area that is large enough to be demosaiced
+unfoldable pub large_enough : Rect → Result Rect FrameFault
+large_enough active = if nat_le 4 (height active) && nat_le 4 (width active) then Ok active else Err Size
+
+-- a fraction rounded down
+abbrev pub rounded_down : ℤ × ℤ → ℤ
+rounded_down q = int_div_euclid q.0 q.1
+
+-- a pair of fractions, across and down, rounded down; a denominator is positive
+abbrev pub extent_in : List (ℤ × ℤ) → Result Extent FrameFault
+extent_in xs =
+    let x = slice_index_or xs 0 (pos 0, pos 0) in
+    let y = slice_index_or xs 1 (pos 0, pos 0) in
+    if int_lt (pos 0) x.1 && int_lt (pos 0) y.1
+    then Ok (record { across = rounded_down x; down = rounded_down y }) else Err Crop
+
+-- the same of a tag, or what counts where it is absent
+abbrev pub extent_or : Option (List (ℤ × ℤ)) → Extent → Result Extent FrameFault
+extent_or None default = Ok default
+extent_or (Some xs) default = extent_in xs
+
+unfoldable pub extent_of : Dirs → Tag → Extent → Result Extent FrameFault
+extent_of dirs tag default = and_then (fractions_of dirs tag) (λ found. extent_or found default)
+
+-- an edge held within a length
+abbrev pub held_within : ℕ → ℤ → ℕ
+held_within length edge = unsigned_abs (int_min (int_max edge (pos 0)) (pos length))
+
+-- the pixels of a plane that a crop has: from its origin on, as many as its size says
+abbrev pub crop_rect : (rows cols : ℕ) → Extent → Extent → Rect
+crop_rect rows cols origin size =
+    record {
+      top = held_within rows origin.down;
+      left = held_within cols origin.across;
+      bottom = held_within rows (origin.down +ℤ size.down);
+      right = held_within cols (origin.across +ℤ size.across);
+    }
+
+-- the default crop of a plane: all that is right of and below its origin where no size is told
+unfoldable pub crop_of : Dirs → (rows cols : ℕ) → Result Rect FrameFault
+crop_of dirs rows cols =
+    and_then (extent_of dirs DefaultCropOrigin (record { across = pos 0; down = pos 0 })) (λ origin.
+    and_then (extent_of dirs DefaultCropSize (record { across = pos cols -ℤ origin.across; down = pos rows -ℤ origin.down })) (λ size.
+    let crop = crop_rect rows cols origin size in
+    if has_pixels crop then Ok crop else Err Crop))

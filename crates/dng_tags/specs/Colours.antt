@@ -1,0 +1,113 @@
+-- The group of the colour tags (DNG 1.6, chapter 4, "ColorMatrix1" to "ForwardMatrix2", and chapter 6, "Mapping Camera Color
+-- Space to CIE XYZ Space"). The numbers of parts, their limits, and that a calibration is diagonal are this project's own.
+use Rattle.std.specs.Prelude.{ℕ, ◌*◌, ◌==◌, ◌&&◌, ◌||◌, if◌then◌else◌, ℤ, pos, negsuc, ◌*ℤ◌, int_le, int_lt, Bool, true, false, not, List, [], ◌∷◌, map, slice_index_or, Option, None, Some, Result, Ok, Err, unsigned_abs}
+use Rattle.std.specs.List.{list_all, range_with_len}
+use Rattle.dng_tags.specs.Answers.{and_then}
+use Rattle.dng_tags.specs.Quantities.{colour_scale, in_parts, on_scale}
+use Rattle.dng_tags.specs.Tags.{rule_of}
+use Rattle.dng_tags.specs.Values.{Dirs, fractions_of}
+use Rattle.dng_tags.specs.declared.faults.FrameFault.{FrameFault}
+use Rattle.dng_tags.specs.declared.faults.FrameFault.TheVariants.{Colour as ColourFault}
+use Rattle.dng_tags.specs.declared.record.Colour.{Colour}
+use Rattle.dng_tags.specs.declared.tags.Tag.{Tag}
+use Rattle.dng_tags.specs.declared.tags.Tag.TheVariants.{AnalogBalance, AsShotNeutral, CameraCalibration1, CameraCalibration2, ColorMatrix1, ColorMatrix2, ForwardMatrix1, ForwardMatrix2}
+
+-- the refusal of a colour tag
+abbrev pub colour_fault : Tag → FrameFault
+colour_fault tag = ColourFault (rule_of tag).number
+
+-- fractions of a colour tag in 65536ths
+abbrev pub colours_in : Tag → List (ℤ × ℤ) → Result (List ℤ) FrameFault
+colours_in tag qs = on_scale colour_scale (colour_fault tag) qs
+
+-- a matrix, by rows, where it is there
+abbrev pub matrix_in : Tag → Option (List (ℤ × ℤ)) → Result (Option (List ℤ)) FrameFault
+matrix_in tag None = Ok None
+matrix_in tag (Some qs) = and_then (colours_in tag qs) (λ entries. Ok (Some entries))
+
+unfoldable pub matrix_of : Dirs → Tag → Result (Option (List ℤ)) FrameFault
+matrix_of dirs tag = and_then (fractions_of dirs tag) (λ found. matrix_in tag found)
+
+-- the entries on the diagonal of a matrix of 3 by 3
+abbrev pub diagonal_of : List ℤ → List ℤ
+diagonal_of entries =
+    slice_index_or entries 0 (pos 0) ∷ slice_index_or entries 4 (pos 0) ∷ slice_index_or entries 8 (pos 0) ∷ []
+
+abbrev pub is_zero : ℤ → Bool
+is_zero (pos n) = n == 0
+is_zero (negsuc n) = false
+
+-- whether the numerators off the diagonal are 0
+unfoldable pub is_diagonal : List (ℤ × ℤ) → Bool
+is_diagonal qs = list_all (λ i. is_zero (slice_index_or qs i (pos 0, pos 0)).0) (1 ∷ 2 ∷ 3 ∷ 5 ∷ 6 ∷ 7 ∷ [])
+
+-- ones in 65536ths
+abbrev pub ones : List ℤ
+ones = pos 65536 ∷ pos 65536 ∷ pos 65536 ∷ []
+
+-- the diagonal of a camera's calibration, which has zeros elsewhere; ones where it is absent
+abbrev pub calibration_in : Tag → Option (List (ℤ × ℤ)) → Result (List ℤ) FrameFault
+calibration_in tag None = Ok ones
+calibration_in tag (Some qs) =
+    and_then (colours_in tag qs) (λ entries.
+    if is_diagonal qs then Ok (diagonal_of entries) else Err (colour_fault tag))
+
+unfoldable pub calibration_of : Dirs → Tag → Result (List ℤ) FrameFault
+calibration_of dirs tag = and_then (fractions_of dirs tag) (λ found. calibration_in tag found)
+
+-- the analog balance, each of which is positive; ones where it is absent
+abbrev pub analog_in : Option (List (ℤ × ℤ)) → Result (List ℤ) FrameFault
+analog_in None = Ok ones
+analog_in (Some qs) =
+    and_then (colours_in AnalogBalance qs) (λ entries.
+    if list_all (int_lt (pos 0)) entries then Ok entries else Err (colour_fault AnalogBalance))
+
+unfoldable pub analog_of : Dirs → Result (List ℤ) FrameFault
+analog_of dirs = and_then (fractions_of dirs AnalogBalance) (λ found. analog_in found)
+
+-- the gain of a channel in 4096ths: the neutral's green over the channel, rounded
+unfoldable pub gain_of : (green channel : ℤ × ℤ) → ℤ
+gain_of green channel = in_parts 4096 (green.0 *ℤ channel.1, green.1 *ℤ channel.0)
+
+-- whether a number of the neutral is positive
+abbrev pub is_positive : ℤ × ℤ → Bool
+is_positive q = int_lt (pos 0) q.0 && int_lt (pos 0) q.1
+
+-- whether a gain is 1 to 2^20
+abbrev pub is_gain : ℤ → Bool
+is_gain gain = int_le (pos 1) gain && int_le gain (pos 1048576)
+
+-- the gains of the three channels from the neutral
+unfoldable pub gains_from : List (ℤ × ℤ) → List ℤ
+gains_from qs = map (gain_of (slice_index_or qs 1 (pos 0, pos 0))) qs
+
+abbrev pub gains_in : Option (List (ℤ × ℤ)) → Result (List ℕ) FrameFault
+gains_in None = Ok (4096 ∷ 4096 ∷ 4096 ∷ [])
+gains_in (Some qs) =
+    if list_all is_positive qs && list_all is_gain (gains_from qs)
+    then Ok (map unsigned_abs (gains_from qs)) else Err (colour_fault AsShotNeutral)
+
+unfoldable pub gains_of : Dirs → Result (List ℕ) FrameFault
+gains_of dirs = and_then (fractions_of dirs AsShotNeutral) (λ found. gains_in found)
+
+-- the group of the colours
+unfoldable pub colour_of : Dirs → Result Colour FrameFault
+colour_of dirs =
+    and_then (matrix_of dirs ColorMatrix1) (λ matrix1.
+    and_then (matrix_of dirs ColorMatrix2) (λ matrix2.
+    and_then (calibration_of dirs CameraCalibration1) (λ calibration1.
+    and_then (calibration_of dirs CameraCalibration2) (λ calibration2.
+    and_then (analog_of dirs) (λ analog.
+    and_then (gains_of dirs) (λ gains.
+    and_then (matrix_of dirs ForwardMatrix1) (λ forward1.
+    and_then (matrix_of dirs ForwardMatrix2) (λ forward2.
+    Ok (record {
+      gains = gains;
+      forward1 = forward1;
+      forward2 = forward2;
+      matrix1 = matrix1;
+      matrix2 = matrix2;
+      analog = analog;
+      calibration1 = calibration1;
+      calibration2 = calibration2;
+    })))))))))

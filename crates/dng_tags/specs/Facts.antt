@@ -1,0 +1,86 @@
+-- What holds of the record of each frame that is read. The limits are this project's own.
+use Rattle.std.specs.Prelude.{◌≡◌, ℕ, ◌+◌, ◌*◌, ◌^◌, ◌<◌, ◌≤◌, ℤ, pos, neg_ℤ, ◌≤ℤ◌, ◌<ℤ◌, ◌⊎◌, List, [], ◌∷◌, length, slice_get, slice_index, Option, None, Some, All, IfSome}
+use Rattle.plane_view.specs.Rectangles.{HasPixel, IsNonEmpty, LiesIn, height, whole_rect, width}
+use Rattle.plane_view.specs.declared.Rect.{Rect}
+use Rattle.plane_view.specs.declared.Shape.{Shape}
+use Rattle.tiff_dirs.specs.Header.{order_of}
+use Rattle.dng_tags.specs.Black.{span_of}
+use Rattle.dng_tags.specs.Pattern.{patterns}
+use Rattle.std.specs.List.{Contains}
+use Rattle.dng_tags.specs.declared.record.Colour.{Colour}
+use Rattle.dng_tags.specs.declared.record.Frame.{Frame}
+use Rattle.dng_tags.specs.declared.record.Levels.{Levels}
+use Rattle.dng_tags.specs.declared.record.Segment.{Segment}
+
+-- a raw image's shape
+pub record IsRawShape (shape : Shape) : Type 0 where
+  pub some_rows : 1 ≤ shape.rows
+  pub rows : shape.rows ≤ 8192
+  pub some_cols : 1 ≤ shape.cols
+  pub cols : shape.cols ≤ 8192
+  pub planes : shape.planes ≡ 1
+  pub area : shape.rows * shape.cols ≤ 2 ^ 25
+
+-- a segment of an image: its pixels lie in the image, and in what is coded of it
+pub record IsPart (shape : Shape) (segment : Segment) : Type 0 where
+  pub some : IsNonEmpty segment.rect
+  pub inside : LiesIn segment.rect (whole_rect shape.rows shape.cols)
+  pub rows : height segment.rect ≤ segment.full_rows
+  pub cols : width segment.rect ≤ segment.full_cols
+  pub coded : segment.full_rows * segment.full_cols ≤ 2 ^ 25
+
+-- the segments of an image: each pixel is in exactly one
+pub record AreParts (shape : Shape) (segments : List Segment) : Type 0 where
+  pub some : 1 ≤ length segments
+  pub most : length segments ≤ 65536
+  pub part : (k : ℕ) (segment : Segment) → slice_get segments k ≡ Some segment → IsPart shape segment
+  pub covered : (r c : ℕ) → r < shape.rows → c < shape.cols → (k : ℕ) × (segment : Segment) × (slice_get segments k ≡ Some segment) × HasPixel segment.rect r c
+  pub apart : (i k : ℕ) (one other : Segment) → slice_get segments i ≡ Some one → slice_get segments k ≡ Some other → (r c : ℕ) → HasPixel one.rect r c → HasPixel other.rect r c → i ≡ k
+
+-- no segment passes the end of the file
+abbrev pub LieIn : List ℕ → List Segment → Type 0
+LieIn bytes segments = (k : ℕ) (segment : Segment) → slice_get segments k ≡ Some segment → segment.at + segment.length ≤ length bytes
+
+-- numbers on both sides of 0, none beyond a limit
+abbrev pub AreWithin : ℕ → List ℤ → Type 0
+AreWithin most xs = All (λ x. (neg_ℤ (pos most) ≤ℤ x) × (x ≤ℤ pos most)) xs
+
+-- the levels of an active area of this many rows and columns
+pub record AreLevels (levels : Levels) (rows cols : ℕ) : Type 0 where
+  pub table : length levels.table ≤ 65536
+  pub black_rows : (1 ≤ levels.black_rows) × (levels.black_rows ≤ 8)
+  pub black_cols : (1 ≤ levels.black_cols) × (levels.black_cols ≤ 8)
+  pub black : length levels.black ≡ levels.black_rows * levels.black_cols
+  pub black_within : AreWithin 16777216 levels.black
+  pub delta_h : (levels.delta_h ≡ []) ⊎ (length levels.delta_h ≡ cols)
+  pub delta_h_within : AreWithin 16777216 levels.delta_h
+  pub delta_v : (levels.delta_v ≡ []) ⊎ (length levels.delta_v ≡ rows)
+  pub delta_v_within : AreWithin 16777216 levels.delta_v
+  pub white : (1 ≤ levels.white) × (levels.white ≤ 65535)
+  pub span : pos 0 <ℤ span_of levels rows cols
+
+-- a matrix, where it is there
+abbrev pub IsMatrix : Option (List ℤ) → Type 0
+IsMatrix matrix = IfSome matrix (AreWithin 1048576)
+
+pub record AreColours (colour : Colour) : Type 0 where
+  pub gains : All (λ gain. (1 ≤ gain) × (gain ≤ 1048576)) colour.gains
+  pub forward1 : IsMatrix colour.forward1
+  pub forward2 : IsMatrix colour.forward2
+
+-- a frame that was read from a file
+pub record IsFrame (frame : Frame) (bytes : List ℕ) : Type 0 where
+  pub shape : IsRawShape frame.shape
+  pub depth : (8 ≤ frame.depth) × (frame.depth ≤ 16)
+  pub order : frame.order ≡ order_of bytes
+  pub parts : AreParts frame.shape frame.segments
+  pub inside : LieIn bytes frame.segments
+  pub pattern : Contains patterns frame.cfa
+  pub active_some : IsNonEmpty frame.active
+  pub active : LiesIn frame.active (whole_rect frame.shape.rows frame.shape.cols)
+  pub rows : 4 ≤ height frame.active
+  pub cols : 4 ≤ width frame.active
+  pub levels : AreLevels frame.levels (height frame.active) (width frame.active)
+  pub crop_some : IsNonEmpty frame.crop
+  pub crop : LiesIn frame.crop (whole_rect (height frame.active) (width frame.active))
+  pub colour : AreColours frame.colour

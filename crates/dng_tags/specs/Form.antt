@@ -1,0 +1,70 @@
+-- The second group: what kind of image it is (TIFF 6.0, section 8, "PhotometricInterpretation", "Compression",
+-- "SamplesPerPixel", "BitsPerSample", "ImageWidth", "ImageLength", and section 19, "SampleFormat"; DNG 1.6, chapter 4, for
+-- photometric interpretation 32803 and compression 7). The limits of the image's size are this project's own.
+use Rattle.std.specs.Prelude.{ℕ, ◌*◌, ◌^◌, ◌==◌, nat_le, ◌&&◌, ◌||◌, if◌then◌else◌, Bool, Result, Ok, Err, unwrap_or}
+use Rattle.plane_view.specs.declared.Shape.{Shape}
+use Rattle.dng_tags.specs.Answers.{and_then, or_refuse}
+use Rattle.dng_tags.specs.Tags.{rule_of}
+use Rattle.dng_tags.specs.Values.{Dirs, number_of}
+use Rattle.dng_tags.specs.declared.faults.FrameFault.{FrameFault}
+use Rattle.dng_tags.specs.declared.faults.FrameFault.TheVariants.{BadEntry, Compression as CompressionFault, Depth, Format, Photometric, Samples, Size}
+use Rattle.dng_tags.specs.declared.form.Form.{Form}
+use Rattle.dng_tags.specs.declared.tags.Tag.{Tag}
+use Rattle.dng_tags.specs.declared.tags.Tag.TheVariants.{BitsPerSample, Compression, ImageLength, ImageWidth, PhotometricInterpretation, SampleFormat, SamplesPerPixel}
+
+-- the number of a tag that has to be there
+unfoldable pub required_number_of : Dirs → Tag → Result ℕ FrameFault
+required_number_of dirs tag =
+    and_then (number_of dirs tag) (λ found. or_refuse found (BadEntry (rule_of tag).number))
+
+-- the number of a tag, or its default
+unfoldable pub number_or : Dirs → Tag → ℕ → Result ℕ FrameFault
+number_or dirs tag default = and_then (number_of dirs tag) (λ found. Ok (unwrap_or found default))
+
+-- a colour filter array
+unfoldable pub photometric_of : Dirs → Result ℕ FrameFault
+photometric_of dirs =
+    and_then (required_number_of dirs PhotometricInterpretation) (λ v.
+    if v == 32803 then Ok v else Err (Photometric v))
+
+-- whether the samples are in lossless JPEG streams
+unfoldable pub lossless_of : Dirs → Result Bool FrameFault
+lossless_of dirs =
+    and_then (number_or dirs Compression 1) (λ v.
+    if v == 1 || v == 7 then Ok (v == 7) else Err (CompressionFault v))
+
+unfoldable pub samples_per_pixel_of : Dirs → Result ℕ FrameFault
+samples_per_pixel_of dirs =
+    and_then (number_or dirs SamplesPerPixel 1) (λ v. if v == 1 then Ok v else Err (Samples v))
+
+-- the bits of a sample
+unfoldable pub depth_of : Dirs → Result ℕ FrameFault
+depth_of dirs =
+    and_then (number_or dirs BitsPerSample 1) (λ v.
+    if nat_le 8 v && nat_le v 16 then Ok v else Err (Depth v))
+
+-- unsigned whole numbers
+unfoldable pub format_of : Dirs → Result ℕ FrameFault
+format_of dirs = and_then (number_or dirs SampleFormat 1) (λ v. if v == 1 then Ok v else Err (Format v))
+
+-- a side of the image
+unfoldable pub side_of : Dirs → Tag → Result ℕ FrameFault
+side_of dirs tag =
+    and_then (required_number_of dirs tag) (λ side.
+    if nat_le 1 side && nat_le side 8192 then Ok side else Err Size)
+
+unfoldable pub shape_of : Dirs → Result Shape FrameFault
+shape_of dirs =
+    and_then (side_of dirs ImageWidth) (λ cols.
+    and_then (side_of dirs ImageLength) (λ rows.
+    if nat_le (rows * cols) (2 ^ 25) then Ok (record { rows = rows; cols = cols; planes = 1 }) else Err Size))
+
+-- the second group
+unfoldable pub form_of : Dirs → Result Form FrameFault
+form_of dirs =
+    and_then (photometric_of dirs) (λ _.
+    and_then (lossless_of dirs) (λ lossless.
+    and_then (samples_per_pixel_of dirs) (λ _.
+    and_then (depth_of dirs) (λ depth.
+    and_then (format_of dirs) (λ _.
+    and_then (shape_of dirs) (λ shape. Ok (record { lossless = lossless; depth = depth; shape = shape })))))))

@@ -1,0 +1,122 @@
+-- The third and fourth groups: the strips or tiles, and that they lie in the file (TIFF 6.0, section 8, "StripOffsets",
+-- "RowsPerStrip", "StripByteCounts", and section 15, "Tiled Images"). The limits are this project's own.
+use Rattle.std.specs.Prelude.{ℕ, ◌+◌, ◌-◌, ◌*◌, ◌/◌, ◌%◌, ◌^◌, nat_le, nat_lt, ◌&&◌, if◌then◌else◌, Bool, true, false, List, map, length, slice_index, Option, None, Some, Result, Ok, Err, unwrap_or, min}
+use Rattle.std.specs.List.{position, range_with_len}
+use Rattle.plane_view.specs.Rectangles.{height, width}
+use Rattle.plane_view.specs.declared.Rect.{Rect}
+use Rattle.plane_view.specs.declared.Shape.{Shape}
+use Rattle.dng_tags.specs.Answers.{and_then, or_refuse}
+use Rattle.dng_tags.specs.Form.{required_number_of}
+use Rattle.dng_tags.specs.Tags.{rule_of}
+use Rattle.dng_tags.specs.Values.{Dirs, number_of, numbers_of}
+use Rattle.dng_tags.specs.declared.faults.FrameFault.{FrameFault}
+use Rattle.dng_tags.specs.declared.faults.FrameFault.TheVariants.{BadEntry, Layout as LayoutFault, Outside}
+use Rattle.dng_tags.specs.declared.layout.Cut.{Cut}
+use Rattle.dng_tags.specs.declared.layout.Layout.{Layout}
+use Rattle.dng_tags.specs.declared.record.Segment.{Segment}
+use Rattle.dng_tags.specs.declared.tags.Tag.{Tag}
+use Rattle.dng_tags.specs.declared.tags.Tag.TheVariants.{RowsPerStrip, StripByteCounts, StripOffsets, TileByteCounts, TileLength, TileOffsets, TileWidth}
+
+-- how many parts of a size make up a length, the last one maybe smaller
+abbrev pub parts : (length size : ℕ) → ℕ
+parts length size = (length + (size - 1)) / size
+
+-- how many segments stand side by side, and how many there are
+abbrev pub segments_across : Shape → Cut → ℕ
+segments_across shape cut = parts shape.cols cut.cols
+
+abbrev pub segment_count : Shape → Cut → ℕ
+segment_count shape cut = parts shape.rows cut.rows * segments_across shape cut
+
+-- the numbers of a tag that has to be there
+unfoldable pub required_numbers_of : Dirs → Tag → Result (List ℕ) FrameFault
+required_numbers_of dirs tag =
+    and_then (numbers_of dirs tag) (λ found. or_refuse found (BadEntry (rule_of tag).number))
+
+-- a layout that isn't too large, with an offset and a byte count for each segment
+unfoldable pub checked_layout : Shape → Layout → Result Layout FrameFault
+checked_layout shape layout =
+    let count = segment_count shape layout.cut in
+    if nat_le count 65536
+        && nat_le (layout.cut.rows * layout.cut.cols) (2 ^ 25)
+        && nat_le count (length layout.offsets)
+        && nat_le count (length layout.counts)
+    then Ok layout else Err LayoutFault
+
+-- a side of a tile
+unfoldable pub checked_tile_side : ℕ → Result ℕ FrameFault
+checked_tile_side side = if nat_le 1 side && nat_le side 16384 then Ok side else Err LayoutFault
+
+-- tiles, whose width was found
+unfoldable pub tiles_of : Dirs → ℕ → Result Layout FrameFault
+tiles_of dirs tile_width =
+    and_then (checked_tile_side tile_width) (λ cols.
+    and_then (required_number_of dirs TileLength) (λ tile_length.
+    and_then (checked_tile_side tile_length) (λ rows.
+    and_then (required_numbers_of dirs TileOffsets) (λ offsets.
+    and_then (required_numbers_of dirs TileByteCounts) (λ counts.
+    Ok (record { cut = record { rows = rows; cols = cols; padded = true }; offsets = offsets; counts = counts }))))))
+
+-- the rows of a strip, of which there is at least one: those of the image where nothing is told
+unfoldable pub strip_rows_of : Dirs → Shape → Result ℕ FrameFault
+strip_rows_of dirs shape =
+    and_then (number_of dirs RowsPerStrip) (λ found.
+    let rows = unwrap_or found (2 ^ 32 - 1) in
+    if nat_le 1 rows then Ok (min rows shape.rows) else Err LayoutFault)
+
+-- strips
+unfoldable pub strips_of : Dirs → Shape → Result Layout FrameFault
+strips_of dirs shape =
+    and_then (required_numbers_of dirs StripOffsets) (λ offsets.
+    and_then (strip_rows_of dirs shape) (λ rows.
+    and_then (required_numbers_of dirs StripByteCounts) (λ counts.
+    Ok (record { cut = record { rows = rows; cols = shape.cols; padded = false }; offsets = offsets; counts = counts }))))
+
+-- tiles where TileWidth is there, else strips
+abbrev pub tiles_or_strips : Dirs → Shape → Option ℕ → Result Layout FrameFault
+tiles_or_strips dirs shape (Some tile_width) = tiles_of dirs tile_width
+tiles_or_strips dirs shape None = strips_of dirs shape
+
+-- the third group
+unfoldable pub layout_of : Dirs → Shape → Result Layout FrameFault
+layout_of dirs shape =
+    and_then (number_of dirs TileWidth) (λ found.
+    and_then (tiles_or_strips dirs shape found) (λ layout. checked_layout shape layout))
+
+-- the pixels of segment k: segments are numbered row by row, and clipped to the image
+unfoldable pub rect_at : Shape → Cut → ℕ → Rect
+rect_at shape cut k =
+    let top = k / segments_across shape cut * cut.rows in
+    let left = k % segments_across shape cut * cut.cols in
+    record { top = top; left = left; bottom = min (top + cut.rows) shape.rows; right = min (left + cut.cols) shape.cols }
+
+-- segment k. A tile is coded at its full size, a strip at the size of its pixels.
+unfoldable pub segment_at : Shape → Layout → ℕ → Segment
+segment_at shape layout k =
+    let rect = rect_at shape layout.cut k in
+    record {
+      at = slice_index layout.offsets k;
+      length = slice_index layout.counts k;
+      rect = rect;
+      full_rows = if layout.cut.padded then layout.cut.rows else height rect;
+      full_cols = layout.cut.cols;
+    }
+
+-- the segments, in the order of their numbers
+unfoldable pub segments_in : Shape → Layout → List Segment
+segments_in shape layout = map (segment_at shape layout) (range_with_len 0 (segment_count shape layout.cut))
+
+-- whether a segment passes the end of a file of this many bytes
+abbrev pub passes_end : ℕ → Segment → Bool
+passes_end len segment = nat_lt len (segment.at + segment.length)
+
+abbrev pub refused_outside : {A : Type 0} → Option ℕ → A → Result A FrameFault
+refused_outside (Some k) value = Err (Outside k)
+refused_outside None value = Ok value
+
+-- the third and fourth groups: the segments, none of which passes the end of the file
+unfoldable pub segments_of : Dirs → Shape → Result (List Segment) FrameFault
+segments_of dirs shape =
+    and_then (layout_of dirs shape) (λ layout.
+    let segments = segments_in shape layout in
+    refused_outside (position (passes_end (length dirs.bytes)) segments) segments)

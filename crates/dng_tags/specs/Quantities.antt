@@ -1,0 +1,30 @@
+-- Fractions as whole numbers of parts. The rounding, to the nearest and up at a half, is this project's own.
+use Rattle.std.specs.Prelude.{ℕ, ◌*◌, ◌&&◌, ℤ, pos, neg_ℤ, ◌+ℤ◌, ◌*ℤ◌, int_le, int_lt, Bool, List, map, if◌then◌else◌, Result, Ok, Err}
+use Rattle.std.specs.Int.{int_div_euclid}
+use Rattle.std.specs.List.{list_all}
+use Rattle.dng_tags.specs.declared.faults.FrameFault.{FrameFault}
+use Rattle.dng_tags.specs.declared.quantities.Scale.{Scale}
+
+-- a numerator over a denominator in parts of one, rounded
+unfoldable pub in_parts : ℕ → ℤ × ℤ → ℤ
+in_parts parts q = int_div_euclid ((pos (2 * parts) *ℤ q.0) +ℤ q.1) (pos 2 *ℤ q.1)
+
+-- whether a fraction has a positive denominator and its number of parts is not beyond the limit
+unfoldable pub is_on : Scale → ℤ × ℤ → Bool
+is_on scale q =
+    int_lt (pos 0) q.1
+    && int_le (neg_ℤ (pos scale.most)) (in_parts scale.parts q)
+    && int_le (in_parts scale.parts q) (pos scale.most)
+
+-- fractions in parts, each on the scale, or a refusal
+unfoldable pub on_scale : Scale → FrameFault → List (ℤ × ℤ) → Result (List ℤ) FrameFault
+on_scale scale fault qs =
+    if list_all (is_on scale) qs then Ok (map (in_parts scale.parts) qs) else Err fault
+
+-- levels: 256ths, within 2^24 of 0
+abbrev pub level_scale : Scale
+level_scale = record { parts = 256; most = 16777216 }
+
+-- colours: 65536ths, within 2^20 of 0
+abbrev pub colour_scale : Scale
+colour_scale = record { parts = 65536; most = 1048576 }
