@@ -1,1 +1,3 @@
 mod Examples
+pub mod OriginLemmas
+pub mod ValuesLemmas

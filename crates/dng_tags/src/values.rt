@@ -32,7 +32,6 @@ impl<'a> Model for Whole<'a> {
     ghost invariant = { λ w. IsTrue (is_whole w.entry.kind) × (length w.entry.value.now ≡ w.entry.count * size_of w.entry.kind) };
 }
 
-#[tactic(auto, unfolding(crate::specs::Values::numbers_in))]
 impl<'a> Whole<'a> {
     /// How many numbers there are.
     pub fn len(&self) -> u32
@@ -76,4 +75,71 @@ fn field_in<'a>(
         return Err(rule.miscounted);
     }
     Ok(Some(entry))
+}
+
+/// The whole numbers under a tag in a directory, if the tag is there.
+#[tactic(auto, using(crate::proofs::ValuesLemmas::length_numbers_in), unfolding(crate::specs::Values::numbers_at))]
+pub fn whole_in<'a>(
+    tiff: &'a Tiff<'a>,
+    dir: &Dir<'_>,
+    tag: Tag,
+) -> Result<Option<Whole<'a>>, FrameFault>
+    requires { IsTrue (are_whole (rule_of tag).kinds) }
+    ensures answer { result ≡ numbers_at tiff.now dir.now tag }
+    ensures counts { IfFound result (λ xs. ((rule_of tag).fewest ≤ length xs) × (length xs ≤ (rule_of tag).most)) }
+{
+    match field_in(tiff, dir, tag)? {
+        Some(entry) => Ok(Some(Whole { tiff, entry })),
+        None => Ok(None),
+    }
+}
+
+/// A file, and the directory of its raw image.
+#[derive(Drop)]
+pub struct Directories<'a> {
+    tiff: &'a Tiff<'a>,
+    raw: Dir<'a>,
+}
+
+impl<'a> Model for Directories<'a> {
+    ghost use Rattle.dng_tags.specs.Values.{Dirs};
+
+    ghost Value = { Dirs };
+
+    ghost view = { λ d. record { bytes = d.tiff.now; raw = d.raw } };
+}
+
+impl<'a> Directories<'a> {
+    /// A file with the directory of its raw image.
+    pub fn new(tiff: &'a Tiff<'a>, raw: Dir<'a>) -> Directories<'a>
+        ensures { result ≡ record { bytes = tiff.now; raw = raw.entry } }
+    {
+        Directories { tiff, raw }
+    }
+
+    /// The whole numbers under a tag in its directory, if the tag is there.
+    #[tactic(auto, unfolding(crate::specs::Values::numbers_of))]
+    pub fn whole(&self, tag: Tag) -> Result<Option<Whole<'a>>, FrameFault>
+        requires { IsTrue (are_whole (rule_of tag).kinds) }
+        ensures answer { result ≡ numbers_of self.now tag }
+        ensures counts { IfFound result (λ xs. ((rule_of tag).fewest ≤ length xs) × (length xs ≤ (rule_of tag).most)) }
+    {
+        match tag.rule().home {
+            Home::Main => whole_in(self.tiff, &self.tiff.first(), tag),
+            Home::Raw => whole_in(self.tiff, &self.raw, tag),
+        }
+    }
+
+    /// The first of them.
+    #[tactic(auto, unfolding(crate::specs::Values::number_of))]
+    pub fn number(&self, tag: Tag) -> Result<Option<u32>, FrameFault>
+        requires whole { IsTrue (are_whole (rule_of tag).kinds) }
+        requires some { 1 ≤ (rule_of tag).fewest }
+        ensures { result ≡ number_of self.now tag }
+    {
+        match self.whole(tag)? {
+            Some(numbers) => Ok(Some(numbers.at(0))),
+            None => Ok(None),
+        }
+    }
 }

@@ -1,5 +1,5 @@
 -- Numbers in a file's byte order (TIFF 6.0, section 2, "Image File Header").
-use Rattle.std.specs.Prelude.{ℕ, ℤ, List, drop}
+use Rattle.std.specs.Prelude.{ℕ, ◌^◌, ℤ, pos, neg_ℤ, ◌≤ℤ◌, ◌<ℤ◌, List, drop}
 use Rattle.std.specs.Int.{cast_signed, w16, w32}
 use Rattle.byteorder.specs.Endian.{big_number, little_number}
 use Rattle.tiff_dirs.specs.declared.Order.{Order}
@@ -25,3 +25,8 @@ signed_short_at order bytes place = cast_signed w16 (short_at order bytes place)
 -- the 32-bit number in two's complement (SLONG) at a place
 abbrev pub signed_long_at : Order → List ℕ → ℕ → ℤ
 signed_long_at order bytes place = cast_signed w32 (long_at order bytes place)
+
+-- a number of 32 bits, signed or not
+pub record IsOf32Bits (n : ℤ) : Type 0 where
+  pub low : neg_ℤ (pos (2 ^ 31)) ≤ℤ n
+  pub high : n <ℤ pos (2 ^ 32)

@@ -11,7 +11,7 @@ ghost use Rattle.std.specs.Option.{option_map};
 ghost use Rattle.tiff_dirs.specs.Entries.{entries, entry_of, field_or_fault, slot_at, value_place};
 ghost use Rattle.tiff_dirs.specs.Header.{directory_fits, directory_of, entry_count, first_directory, has_header, open_of, order_of};
 ghost use Rattle.tiff_dirs.specs.Kinds.{is_fraction, is_whole, size_of};
-ghost use Rattle.tiff_dirs.specs.Numbers.{long_at, short_at, signed_long_at, signed_short_at};
+ghost use Rattle.tiff_dirs.specs.Numbers.{IsOf32Bits, long_at, short_at, signed_long_at, signed_short_at};
 ghost use Rattle.tiff_dirs.specs.Seen.{IfFound, one_seen, seen};
 ghost use Rattle.tiff_dirs.specs.Values.{number_in, rational_in};
 
@@ -61,7 +61,8 @@ impl Order {
     // The 16-bit number in two's complement at a place.
     fn signed_short(self, bytes: &[u8], place: usize) -> i64
         requires { place + 2 ≤ length bytes.now }
-        ensures { result ≡ signed_short_at self bytes.now place }
+        ensures value { result ≡ signed_short_at self bytes.now place }
+        ensures range { IsOf32Bits result }
     {
         self.short(bytes, place).cast_signed().into()
     }
@@ -69,7 +70,8 @@ impl Order {
     // The 32-bit number in two's complement at a place.
     fn signed_long(self, bytes: &[u8], place: usize) -> i64
         requires { place + 4 ≤ length bytes.now }
-        ensures { result ≡ signed_long_at self bytes.now place }
+        ensures value { result ≡ signed_long_at self bytes.now place }
+        ensures range { IsOf32Bits result }
     {
         self.long(bytes, place).cast_signed().into()
     }
@@ -392,7 +394,8 @@ impl<'a> Tiff<'a> {
         requires index { i < e.now.count }
         requires kind { IsTrue (is_whole e.now.kind) }
         requires room { e.now.count * size_of e.now.kind ≤ length e.now.value.now }
-        ensures { result ≡ number_in (order_of self.now) e.now.kind e.now.value.now i }
+        ensures value { result ≡ number_in (order_of self.now) e.now.kind e.now.value.now i }
+        ensures short { e.now.kind ≡ 3 → result < 2 ^ 16 }
     {
         let i = i as usize;
         match e.kind {
@@ -409,7 +412,9 @@ impl<'a> Tiff<'a> {
         requires index { i < e.now.count }
         requires kind { IsTrue (is_fraction e.now.kind) }
         requires room { e.now.count * size_of e.now.kind ≤ length e.now.value.now }
-        ensures { result ≡ rational_in (order_of self.now) e.now.kind e.now.value.now i }
+        ensures value { result ≡ rational_in (order_of self.now) e.now.kind e.now.value.now i }
+        ensures numerator { IsOf32Bits result.0 }
+        ensures denominator { IsOf32Bits result.1 }
     {
         let place = i as usize;
         match e.kind {

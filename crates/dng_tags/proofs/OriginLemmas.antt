@@ -1,0 +1,29 @@
+-- The search for the raw image's directory, one offset after the other.
+use Rattle.std.proofs.Common.{◌≡◌, ℕ, ◌+◌, ◌<◌, ◌≤◌, nat_eq, List, length, drop, slice_index, Result, Ok, Err, false, refl, arith, add-one}
+use Rattle.std.specs.Prelude.{if◌then◌else◌, ◌==◌}
+use Rattle.std.proofs.lemmas.Bool.Decides.{nat_tests}
+use Rattle.std.proofs.Math.Seq.{drop-cons}
+use Rattle.std.proofs.lemmas.List.{drop_all}
+use Rattle.tiff_dirs.specs.Header.{directory_of}
+use Rattle.dng_tags.specs.Answers.{and_then}
+use Rattle.dng_tags.specs.Origin.{first_raw, refusing, subfile_type_at}
+use Rattle.dng_tags.specs.declared.faults.FrameFault.{FrameFault}
+use Rattle.dng_tags.specs.declared.faults.FrameFault.TheVariants.{NoRaw}
+
+-- the search at offset i
+pub first_raw_step : (bytes offsets : List ℕ) (i : ℕ) → i < length offsets → first_raw bytes (drop i offsets)
+    ≡ and_then (refusing (directory_of bytes (slice_index offsets i))) (λ at. and_then (subfile_type_at bytes at) (λ kind. if kind == 0 then Ok at else first_raw bytes (drop (i + 1) offsets)))
+unfolding first_raw
+first_raw_step bytes offsets i within = rw (add-one, drop-cons offsets i 0) refl
+
+-- past the last offset
+pub first_raw_end : (bytes offsets : List ℕ) (i : ℕ) → length offsets ≤ i → first_raw bytes (drop i offsets) ≡ Err NoRaw
+unfolding first_raw
+first_raw_end bytes offsets i past = rw (drop_all i offsets past) refl
+
+-- a directory whose NewSubFileType isn't 0 is passed over
+pub first_raw_passed : (bytes offsets : List ℕ) (i dir kind : ℕ) → i < length offsets → refusing (directory_of bytes (slice_index offsets i)) ≡ Ok dir → subfile_type_at bytes dir ≡ Ok kind → (kind ≡ 0 → ⊥)
+    → first_raw bytes (drop i offsets) ≡ first_raw bytes (drop (i + 1) offsets)
+first_raw_passed bytes offsets i dir kind within there told other =
+    let untrue : nat_eq kind 0 ≡ false = grind (arith, nat_tests) in
+    rw (first_raw_step bytes offsets i within, there, told, untrue) refl
