@@ -16,7 +16,7 @@ use Rattle.dng_tags.specs.Layout.{checked_layout, checked_tile_side, layout_of, 
 use Rattle.dng_tags.specs.Origin.{first_raw, needed_version_of, origin_of, raw_directory_of, subfile_type_at, tiff_of, version_of}
 use Rattle.dng_tags.specs.Pattern.{colours_of, has_plane_colours, has_square_layout, pattern_of, pattern_size_of}
 use Rattle.dng_tags.specs.Quantities.{in_parts, is_on, level_scale, on_scale}
-use Rattle.dng_tags.specs.Values.{field_at, fractions_in, fractions_of, number_of, numbers_at, numbers_in, numbers_of}
+use Rattle.dng_tags.specs.Values.{field_at, fractions_at, fractions_in, fractions_of, number_of, numbers_at, numbers_in, numbers_of}
 use Rattle.dng_tags.specs.declared.faults.FrameFault.TheVariants.{BadDirectory, NotTiff, Outside}
 use Rattle.dng_tags.specs.declared.record.Frame.{Frame}
 use Rattle.dng_tags.specs.declared.record.Levels.{Levels}
@@ -66,7 +66,7 @@ flat_record = record {
 }
 
 flat-frame : frame_of flat ≡ Ok flat_record
-unfolding frame_of record_of tiff_of open_of origin_of version_of needed_version_of raw_directory_of subfile_type_at form_of photometric_of lossless_of samples_per_pixel_of depth_of format_of shape_of side_of required_number_of number_or segments_of layout_of strips_of strip_rows_of required_numbers_of checked_layout segments_in segment_at rect_at pattern_of pattern_size_of colours_of has_plane_colours has_square_layout without_opcodes_of lacks active_of large_enough levels_of table_of repeat_of levels_under white_of spanning span_of greatest_black crop_of extent_of colour_of matrix_of calibration_of analog_of gains_of numbers_of number_of numbers_at fractions_of field_at numbers_in fractions_in order_of is_big is_little has_header first_directory directory_fits entry_count number_at entry_of entries field_or_fault field_of value_fits value_size value_place slot_at size_of number_in
+unfolding frame_of record_of tiff_of open_of origin_of version_of needed_version_of raw_directory_of subfile_type_at form_of photometric_of lossless_of samples_per_pixel_of depth_of format_of shape_of side_of required_number_of number_or segments_of layout_of strips_of strip_rows_of required_numbers_of checked_layout segments_in segment_at rect_at pattern_of pattern_size_of colours_of has_plane_colours has_square_layout without_opcodes_of lacks active_of large_enough levels_of table_of repeat_of levels_under white_of spanning span_of greatest_black crop_of extent_of colour_of matrix_of calibration_of analog_of gains_of numbers_of number_of numbers_at fractions_of fractions_at field_at numbers_in fractions_in order_of is_big is_little has_header first_directory directory_fits entry_count number_at entry_of entries field_or_fault field_of value_fits value_size value_place slot_at size_of number_in
 flat-frame = refl
 
 flat-built : is_built flat_record ≡ true

@@ -66,10 +66,13 @@ numbers_of dirs tag = numbers_at dirs.bytes (home_in dirs (rule_of tag).home) ta
 unfoldable pub number_of : Dirs → Tag → Result (Option ℕ) FrameFault
 number_of dirs tag = and_then (numbers_of dirs tag) (λ found. Ok (option_map (λ xs. slice_index xs 0) found))
 
+-- the fractions under a tag in the directory at an offset
+unfoldable pub fractions_at : List ℕ → ℕ → Tag → Result (Option (List (ℤ × ℤ))) FrameFault
+fractions_at bytes at tag = and_then (field_at bytes at tag) (λ found. Ok (option_map (fractions_in (order_of bytes)) found))
+
 -- the fractions under a tag, in the tag's own directory
 unfoldable pub fractions_of : Dirs → Tag → Result (Option (List (ℤ × ℤ))) FrameFault
-fractions_of dirs tag =
-    and_then (field_at dirs.bytes (home_in dirs (rule_of tag).home) tag) (λ found. Ok (option_map (fractions_in (order_of dirs.bytes)) found))
+fractions_of dirs tag = fractions_at dirs.bytes (home_in dirs (rule_of tag).home) tag
 
 -- an answer for an entry, with the bytes that its slice holds
 abbrev pub entry_seen : Result (Option Entry) FrameFault → Result (Option Field) FrameFault

@@ -1,15 +1,17 @@
 //! Reading a tag's numbers by the tag's rule. An entry is looked up once, and its numbers are read in place.
 
-ghost use Rattle.std.specs.Prelude.{◌≡◌, ℕ, ◌*◌, ◌≤◌, ◌<◌, length, slice_index, IsTrue};
-ghost use Rattle.std.specs.List.{HoldsAt};
+ghost use Rattle.std.specs.Prelude.{◌≡◌, ℕ, ◌*◌, ◌≤◌, ◌<◌, ℤ, pos, length, slice_index, slice_index_or, IsTrue};
+ghost use Rattle.tiff_dirs.specs.Header.{order_of};
 ghost use Rattle.tiff_dirs.specs.Kinds.{size_of};
+ghost use Rattle.tiff_dirs.specs.Numbers.{IsOf32Bits};
+ghost use Rattle.dng_tags.specs.Frame.{lacks};
 ghost use Rattle.dng_tags.specs.Tags.{allows, are_fractions, are_whole, rule_of};
-ghost use Rattle.dng_tags.specs.Values.{IfFound, entry_seen, field_at, fractions_of, number_of, numbers_at, numbers_of};
+ghost use Rattle.dng_tags.specs.Values.{IfFound, entry_seen, field_at, fractions_at, fractions_of, number_of, numbers_at, numbers_of};
 
 use crate::faults::FrameFault;
 use crate::tags::{Home, Tag};
 use std::marker::Model;
-use tiff_dirs::{Dir, Entry, EntryFault, Tiff};
+use tiff_dirs::{Dir, Entry, EntryFault, Order, Tiff};
 
 /// The whole numbers of a tag's entry. Contracts see the list of them.
 #[derive(Drop)]
@@ -46,6 +48,46 @@ impl<'a> Whole<'a> {
         ensures { result ≡ slice_index self.now i }
     {
         self.tiff.number(&self.entry, i)
+    }
+}
+
+/// The numbers of a tag's entry as fractions. Contracts see the list of them, each as numerator and denominator.
+#[derive(Drop)]
+pub struct Fractions<'a> {
+    tiff: &'a Tiff<'a>,
+    entry: Entry<'a>,
+}
+
+impl<'a> Model for Fractions<'a> {
+    ghost use Rattle.std.specs.Prelude.{◌≡◌, ℤ, ◌*◌, List, length, IsTrue};
+    ghost use Rattle.tiff_dirs.specs.Header.{order_of};
+    ghost use Rattle.tiff_dirs.specs.Kinds.{is_fraction, size_of};
+    ghost use Rattle.tiff_dirs.specs.Seen.{field_seen};
+    ghost use Rattle.dng_tags.specs.Values.{fractions_in};
+
+    ghost Value = { List (ℤ × ℤ) };
+
+    ghost view = { λ f. fractions_in (order_of f.tiff.now) (field_seen f.entry) };
+
+    ghost invariant = { λ f. IsTrue (is_fraction f.entry.kind) × (length f.entry.value.now ≡ f.entry.count * size_of f.entry.kind) };
+}
+
+impl<'a> Fractions<'a> {
+    /// How many numbers there are.
+    pub fn len(&self) -> u32
+        ensures { result ≡ length self.now }
+    {
+        self.entry.count
+    }
+
+    /// Number `i`, counted from 0, as numerator and denominator.
+    pub fn at(&self, i: u32) -> (i64, i64)
+        requires { i < length self.now }
+        ensures value { result ≡ slice_index_or self.now i (pos 0, pos 0) }
+        ensures numerator { IsOf32Bits result.0 }
+        ensures denominator { IsOf32Bits result.1 }
+    {
+        self.tiff.rational(&self.entry, i)
     }
 }
 
@@ -90,6 +132,23 @@ pub fn whole_in<'a>(
 {
     match field_in(tiff, dir, tag)? {
         Some(entry) => Ok(Some(Whole { tiff, entry })),
+        None => Ok(None),
+    }
+}
+
+/// The fractions under a tag in a directory, if the tag is there.
+#[tactic(auto, using(crate::proofs::ValuesLemmas::length_fractions_in), unfolding(crate::specs::Values::fractions_at))]
+fn fractions_in<'a>(
+    tiff: &'a Tiff<'a>,
+    dir: &Dir<'_>,
+    tag: Tag,
+) -> Result<Option<Fractions<'a>>, FrameFault>
+    requires { IsTrue (are_fractions (rule_of tag).kinds) }
+    ensures answer { result ≡ fractions_at tiff.now dir.now tag }
+    ensures counts { IfFound result (λ xs. ((rule_of tag).fewest ≤ length xs) × (length xs ≤ (rule_of tag).most)) }
+{
+    match field_in(tiff, dir, tag)? {
+        Some(entry) => Ok(Some(Fractions { tiff, entry })),
         None => Ok(None),
     }
 }
@@ -141,5 +200,43 @@ impl<'a> Directories<'a> {
             Some(numbers) => Ok(Some(numbers.at(0))),
             None => Ok(None),
         }
+    }
+
+    /// The fractions under a tag in its directory, if the tag is there.
+    #[tactic(auto, unfolding(crate::specs::Values::fractions_of))]
+    pub fn fractions(&self, tag: Tag) -> Result<Option<Fractions<'a>>, FrameFault>
+        requires { IsTrue (are_fractions (rule_of tag).kinds) }
+        ensures answer { result ≡ fractions_of self.now tag }
+        ensures counts { IfFound result (λ xs. ((rule_of tag).fewest ≤ length xs) × (length xs ≤ (rule_of tag).most)) }
+    {
+        match tag.rule().home {
+            Home::Main => fractions_in(self.tiff, &self.tiff.first(), tag),
+            Home::Raw => fractions_in(self.tiff, &self.raw, tag),
+        }
+    }
+
+    /// Whether the raw image's directory has no entry of a tag, also none that can't be read.
+    #[tactic(auto, unfolding(crate::specs::Frame::lacks))]
+    pub fn lacks(&self, tag: Tag) -> bool
+        ensures { result ≡ lacks self.now tag }
+    {
+        match self.tiff.find(&self.raw, tag.rule().number) {
+            Ok(None) => true,
+            Ok(Some(_)) | Err(_) => false,
+        }
+    }
+
+    /// The file's byte order.
+    pub fn order(&self) -> Order
+        ensures { result ≡ order_of self.now.bytes }
+    {
+        self.tiff.order()
+    }
+
+    /// How many bytes the file has.
+    pub fn file_len(&self) -> u64
+        ensures { result ≡ length self.now.bytes }
+    {
+        self.tiff.bytes().len() as u64
     }
 }

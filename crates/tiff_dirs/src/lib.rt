@@ -389,6 +389,13 @@ impl<'a> Tiff<'a> {
         }
     }
 
+    /// The file's bytes.
+    pub fn bytes(&self) -> &[u8]
+        ensures { result.now ≡ self.now }
+    {
+        self.bytes
+    }
+
     /// Number `i` of the entry's value, counted from 0.
     pub fn number(&self, e: &Entry<'_>, i: u32) -> u32
         requires index { i < e.now.count }
