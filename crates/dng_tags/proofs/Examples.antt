@@ -10,9 +10,9 @@ use Rattle.dng_tags.specs.Area.{active_of, crop_of, crop_rect, extent_of, large_
 use Rattle.dng_tags.specs.Black.{black_at, greatest_black, levels_of, levels_under, repeat_of, span_of, spanning, table_of, white_of}
 use Rattle.dng_tags.specs.Built.{are_plain_colours, are_plain_levels, is_built, is_one_strip}
 use Rattle.dng_tags.specs.Colours.{analog_of, calibration_in, calibration_of, colour_of, gain_of, gains_from, gains_in, gains_of, is_diagonal, matrix_in, matrix_of}
-use Rattle.dng_tags.specs.Form.{depth_of, form_of, format_of, lossless_of, number_or, photometric_of, required_number_of, samples_per_pixel_of, shape_of, side_of}
+use Rattle.dng_tags.specs.Form.{depth_of, form_of, format_of, lossless_of, number_or, photometric_of, required_number_of, required_numbers_of, samples_per_pixel_of, shape_of, side_of}
 use Rattle.dng_tags.specs.Frame.{frame_of, lacks, record_of, without_opcodes_of}
-use Rattle.dng_tags.specs.Layout.{checked_layout, checked_tile_side, layout_of, rect_at, required_numbers_of, segment_at, segments_in, segments_of, strip_rows_of, strips_of, tiles_of}
+use Rattle.dng_tags.specs.Layout.{checked_layout, checked_tile_side, layout_of, rect_at, segment_at, segments_in, segments_of, strip_rows_of, strips_of, tiles_of}
 use Rattle.dng_tags.specs.Origin.{first_raw, needed_version_of, origin_of, raw_directory_of, subfile_type_at, tiff_of, version_of}
 use Rattle.dng_tags.specs.Pattern.{colours_of, has_plane_colours, has_square_layout, pattern_of, pattern_size_of}
 use Rattle.dng_tags.specs.Quantities.{in_parts, is_on, level_scale, on_scale}

@@ -1,3 +1,4 @@
+pub mod AreaLemmas
 mod Examples
 pub mod OriginLemmas
 pub mod ValuesLemmas

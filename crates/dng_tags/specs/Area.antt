@@ -1,6 +1,6 @@
 -- The groups of the active area, of the size at demosaicing and of the default crop (DNG 1.6, chapter 4, "ActiveArea",
 -- "DefaultCropOrigin", "DefaultCropSize"). The rounding and the smallest size are this project's own.
-use Rattle.std.specs.Prelude.{ℕ, ◌-◌, nat_le, nat_lt, ◌&&◌, if◌then◌else◌, ℤ, pos, ◌+ℤ◌, ◌-ℤ◌, int_le, int_lt, Bool, List, slice_index, slice_index_or, Option, None, Some, Result, Ok, Err, unsigned_abs}
+use Rattle.std.specs.Prelude.{ℕ, ◌-◌, ◌≤ℤ◌, neg_ℤ, nat_le, nat_lt, ◌&&◌, if◌then◌else◌, ℤ, pos, ◌+ℤ◌, ◌-ℤ◌, int_le, int_lt, Bool, List, slice_index, slice_index_or, Option, None, Some, Result, Ok, Err, unwrap_or, unsigned_abs}
 use Rattle.std.specs.Int.{int_div_euclid, int_max, int_min}
 use Rattle.std.specs.Option.{option_map_or}
 use Rattle.plane_view.specs.Rectangles.{height, whole_rect, width}
@@ -47,13 +47,13 @@ extent_in xs =
     if int_lt (pos 0) x.1 && int_lt (pos 0) y.1
     then Ok (record { across = rounded_down x; down = rounded_down y }) else Err Crop
 
--- the same of a tag, or what counts where it is absent
-abbrev pub extent_or : Option (List (ℤ × ℤ)) → Extent → Result Extent FrameFault
-extent_or None default = Ok default
-extent_or (Some xs) default = extent_in xs
+-- the same of a tag, if it is there
+abbrev pub extent_found : Option (List (ℤ × ℤ)) → Result (Option Extent) FrameFault
+extent_found None = Ok None
+extent_found (Some xs) = and_then (extent_in xs) (λ extent. Ok (Some extent))
 
-unfoldable pub extent_of : Dirs → Tag → Extent → Result Extent FrameFault
-extent_of dirs tag default = and_then (fractions_of dirs tag) (λ found. extent_or found default)
+unfoldable pub extent_of : Dirs → Tag → Result (Option Extent) FrameFault
+extent_of dirs tag = and_then (fractions_of dirs tag) extent_found
 
 -- an edge held within a length
 abbrev pub held_within : ℕ → ℤ → ℕ
@@ -69,10 +69,22 @@ crop_rect rows cols origin size =
       right = held_within cols (origin.across +ℤ size.across);
     }
 
+-- what a plane has from an origin on
+abbrev pub rest_of : (rows cols : ℕ) → Extent → Extent
+rest_of rows cols origin = record { across = pos cols -ℤ origin.across; down = pos rows -ℤ origin.down }
+
 -- the default crop of a plane: all that is right of and below its origin where no size is told
 unfoldable pub crop_of : Dirs → (rows cols : ℕ) → Result Rect FrameFault
 crop_of dirs rows cols =
-    and_then (extent_of dirs DefaultCropOrigin (record { across = pos 0; down = pos 0 })) (λ origin.
-    and_then (extent_of dirs DefaultCropSize (record { across = pos cols -ℤ origin.across; down = pos rows -ℤ origin.down })) (λ size.
-    let crop = crop_rect rows cols origin size in
+    and_then (extent_of dirs DefaultCropOrigin) (λ place.
+    let origin = unwrap_or place (record { across = pos 0; down = pos 0 }) in
+    and_then (extent_of dirs DefaultCropSize) (λ size.
+    let crop = crop_rect rows cols origin (unwrap_or size (rest_of rows cols origin)) in
     if has_pixels crop then Ok crop else Err Crop))
+
+-- a place or a size none of whose numbers is beyond a limit
+pub record IsBelow (limit : ℕ) (extent : Extent) : Type 0 where
+  pub across_low : neg_ℤ (pos limit) ≤ℤ extent.across
+  pub across_high : extent.across ≤ℤ pos limit
+  pub down_low : neg_ℤ (pos limit) ≤ℤ extent.down
+  pub down_high : extent.down ≤ℤ pos limit

@@ -1,11 +1,11 @@
 -- The second group: what kind of image it is (TIFF 6.0, section 8, "PhotometricInterpretation", "Compression",
 -- "SamplesPerPixel", "BitsPerSample", "ImageWidth", "ImageLength", and section 19, "SampleFormat"; DNG 1.6, chapter 4, for
 -- photometric interpretation 32803 and compression 7). The limits of the image's size are this project's own.
-use Rattle.std.specs.Prelude.{ℕ, ◌*◌, ◌^◌, ◌==◌, nat_le, ◌&&◌, ◌||◌, if◌then◌else◌, Bool, Result, Ok, Err, unwrap_or}
+use Rattle.std.specs.Prelude.{ℕ, ◌*◌, ◌^◌, ◌==◌, nat_le, ◌&&◌, ◌||◌, if◌then◌else◌, Bool, List, Result, Ok, Err, unwrap_or}
 use Rattle.plane_view.specs.declared.Shape.{Shape}
 use Rattle.dng_tags.specs.Answers.{and_then, or_refuse}
 use Rattle.dng_tags.specs.Tags.{rule_of}
-use Rattle.dng_tags.specs.Values.{Dirs, number_of}
+use Rattle.dng_tags.specs.Values.{Dirs, number_of, numbers_of}
 use Rattle.dng_tags.specs.declared.faults.FrameFault.{FrameFault}
 use Rattle.dng_tags.specs.declared.faults.FrameFault.TheVariants.{BadEntry, Compression as CompressionFault, Depth, Format, Photometric, Samples, Size}
 use Rattle.dng_tags.specs.declared.form.Form.{Form}
@@ -16,6 +16,11 @@ use Rattle.dng_tags.specs.declared.tags.Tag.TheVariants.{BitsPerSample, Compress
 unfoldable pub required_number_of : Dirs → Tag → Result ℕ FrameFault
 required_number_of dirs tag =
     and_then (number_of dirs tag) (λ found. or_refuse found (BadEntry (rule_of tag).number))
+
+-- the numbers of a tag that has to be there
+unfoldable pub required_numbers_of : Dirs → Tag → Result (List ℕ) FrameFault
+required_numbers_of dirs tag =
+    and_then (numbers_of dirs tag) (λ found. or_refuse found (BadEntry (rule_of tag).number))
 
 -- the number of a tag, or its default
 unfoldable pub number_or : Dirs → Tag → ℕ → Result ℕ FrameFault

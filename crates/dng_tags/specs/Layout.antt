@@ -5,12 +5,11 @@ use Rattle.std.specs.List.{position, range_with_len}
 use Rattle.plane_view.specs.Rectangles.{height, width}
 use Rattle.plane_view.specs.declared.Rect.{Rect}
 use Rattle.plane_view.specs.declared.Shape.{Shape}
-use Rattle.dng_tags.specs.Answers.{and_then, or_refuse}
-use Rattle.dng_tags.specs.Form.{required_number_of}
-use Rattle.dng_tags.specs.Tags.{rule_of}
-use Rattle.dng_tags.specs.Values.{Dirs, number_of, numbers_of}
+use Rattle.dng_tags.specs.Answers.{and_then}
+use Rattle.dng_tags.specs.Form.{required_number_of, required_numbers_of}
+use Rattle.dng_tags.specs.Values.{Dirs, number_of}
 use Rattle.dng_tags.specs.declared.faults.FrameFault.{FrameFault}
-use Rattle.dng_tags.specs.declared.faults.FrameFault.TheVariants.{BadEntry, Layout as LayoutFault, Outside}
+use Rattle.dng_tags.specs.declared.faults.FrameFault.TheVariants.{Layout as LayoutFault, Outside}
 use Rattle.dng_tags.specs.declared.layout.Cut.{Cut}
 use Rattle.dng_tags.specs.declared.layout.Layout.{Layout}
 use Rattle.dng_tags.specs.declared.record.Segment.{Segment}
@@ -27,11 +26,6 @@ segments_across shape cut = parts shape.cols cut.cols
 
 abbrev pub segment_count : Shape → Cut → ℕ
 segment_count shape cut = parts shape.rows cut.rows * segments_across shape cut
-
--- the numbers of a tag that has to be there
-unfoldable pub required_numbers_of : Dirs → Tag → Result (List ℕ) FrameFault
-required_numbers_of dirs tag =
-    and_then (numbers_of dirs tag) (λ found. or_refuse found (BadEntry (rule_of tag).number))
 
 -- a layout that isn't too large, with an offset and a byte count for each segment
 unfoldable pub checked_layout : Shape → Layout → Result Layout FrameFault

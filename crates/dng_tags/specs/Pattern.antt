@@ -4,8 +4,7 @@ use Rattle.std.specs.Prelude.{ℕ, ◌==◌, ◌&&◌, if◌then◌else◌, Bool
 use Rattle.std.specs.List.{find}
 use Rattle.std.specs.Option.{option_map_or}
 use Rattle.dng_tags.specs.Answers.{and_then, or_refuse}
-use Rattle.dng_tags.specs.Form.{number_or}
-use Rattle.dng_tags.specs.Layout.{required_numbers_of}
+use Rattle.dng_tags.specs.Form.{number_or, required_numbers_of}
 use Rattle.dng_tags.specs.Values.{Dirs, numbers_of}
 use Rattle.dng_tags.specs.declared.faults.FrameFault.{FrameFault}
 use Rattle.dng_tags.specs.declared.faults.FrameFault.TheVariants.{Cfa}

@@ -1,13 +1,13 @@
 //! The second group: what kind of image it is.
 
-ghost use Rattle.std.specs.Prelude.{◌≡◌, ◌≤◌, IfOk, IsTrue};
+ghost use Rattle.std.specs.Prelude.{◌≡◌, ◌≤◌, length, IfOk, IsTrue};
 ghost use Rattle.dng_tags.specs.Facts.{IsRawShape};
-ghost use Rattle.dng_tags.specs.Form.{depth_of, form_of, format_of, lossless_of, number_or, photometric_of, required_number_of, samples_per_pixel_of, shape_of, side_of};
+ghost use Rattle.dng_tags.specs.Form.{depth_of, form_of, format_of, lossless_of, number_or, photometric_of, required_number_of, required_numbers_of, samples_per_pixel_of, shape_of, side_of};
 ghost use Rattle.dng_tags.specs.Tags.{are_whole, rule_of};
 
 use crate::faults::FrameFault;
 use crate::tags::Tag;
-use crate::values::Directories;
+use crate::values::{Directories, Whole};
 use plane_view::Shape;
 
 /// The value of PhotometricInterpretation for a colour filter array.
@@ -36,7 +36,7 @@ pub struct Form {
     pub shape: Shape,
 }
 
-impl Directories<'_> {
+impl<'a> Directories<'a> {
     /// The number of a tag that has to be there.
     #[tactic(auto, unfolding(crate::specs::Form::required_number_of))]
     pub fn required_number(&self, tag: Tag) -> Result<u32, FrameFault>
@@ -46,6 +46,21 @@ impl Directories<'_> {
     {
         match self.number(tag)? {
             Some(number) => Ok(number),
+            None => Err(FrameFault::BadEntry {
+                tag: tag.rule().number,
+            }),
+        }
+    }
+
+    /// The numbers of a tag that has to be there.
+    #[tactic(auto, unfolding(crate::specs::Form::required_numbers_of))]
+    pub fn required_whole(&self, tag: Tag) -> Result<Whole<'a>, FrameFault>
+        requires { IsTrue (are_whole (rule_of tag).kinds) }
+        ensures answer { result ≡ required_numbers_of self.now tag }
+        ensures counts { IfOk result (λ xs. ((rule_of tag).fewest ≤ length xs) × (length xs ≤ (rule_of tag).most)) }
+    {
+        match self.whole(tag)? {
+            Some(numbers) => Ok(numbers),
             None => Err(FrameFault::BadEntry {
                 tag: tag.rule().number,
             }),

@@ -7,6 +7,7 @@ mod faults;
 mod form;
 mod layout;
 mod origin;
+mod pattern;
 mod quantities;
 mod record;
 mod tags;
