@@ -1,4 +1,5 @@
 pub mod AreaLemmas
 mod Examples
+pub mod ListLemmas
 pub mod OriginLemmas
 pub mod ValuesLemmas

@@ -1,11 +1,12 @@
 -- What holds of the record of each frame that is read. The limits are this project's own.
-use Rattle.std.specs.Prelude.{◌≡◌, ℕ, ◌+◌, ◌*◌, ◌^◌, ◌<◌, ◌≤◌, ℤ, pos, neg_ℤ, ◌≤ℤ◌, ◌<ℤ◌, ◌⊎◌, List, [], ◌∷◌, length, slice_get, slice_index, Option, None, Some, All, IfSome}
+use Rattle.std.specs.Prelude.{◌≡◌, ℕ, ◌+◌, ◌*◌, ◌^◌, ◌<◌, ◌≤◌, ℤ, pos, ◌<ℤ◌, ◌⊎◌, List, [], ◌∷◌, length, slice_get, slice_index, Option, None, Some, IfSome}
 use Rattle.plane_view.specs.Rectangles.{HasPixel, IsNonEmpty, LiesIn, height, whole_rect, width}
 use Rattle.plane_view.specs.declared.Rect.{Rect}
 use Rattle.plane_view.specs.declared.Shape.{Shape}
 use Rattle.tiff_dirs.specs.Header.{order_of}
 use Rattle.dng_tags.specs.Black.{span_of}
 use Rattle.dng_tags.specs.Pattern.{patterns}
+use Rattle.dng_tags.specs.Quantities.{AreWithin}
 use Rattle.std.specs.List.{Contains}
 use Rattle.dng_tags.specs.declared.record.Colour.{Colour}
 use Rattle.dng_tags.specs.declared.record.Frame.{Frame}
@@ -41,10 +42,6 @@ pub record AreParts (shape : Shape) (segments : List Segment) : Type 0 where
 abbrev pub LieIn : List ℕ → List Segment → Type 0
 LieIn bytes segments = (k : ℕ) (segment : Segment) → slice_get segments k ≡ Some segment → segment.at + segment.length ≤ length bytes
 
--- numbers on both sides of 0, none beyond a limit
-abbrev pub AreWithin : ℕ → List ℤ → Type 0
-AreWithin most xs = All (λ x. (neg_ℤ (pos most) ≤ℤ x) × (x ≤ℤ pos most)) xs
-
 -- the levels of an active area of this many rows and columns
 pub record AreLevels (levels : Levels) (rows cols : ℕ) : Type 0 where
   pub table : length levels.table ≤ 65536
@@ -64,7 +61,7 @@ abbrev pub IsMatrix : Option (List ℤ) → Type 0
 IsMatrix matrix = IfSome matrix (AreWithin 1048576)
 
 pub record AreColours (colour : Colour) : Type 0 where
-  pub gains : All (λ gain. (1 ≤ gain) × (gain ≤ 1048576)) colour.gains
+  pub gains : (k : ℕ) → k < 3 → (1 ≤ slice_index colour.gains k) × (slice_index colour.gains k ≤ 1048576)
   pub forward1 : IsMatrix colour.forward1
   pub forward2 : IsMatrix colour.forward2
 

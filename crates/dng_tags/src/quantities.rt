@@ -1,10 +1,11 @@
 //! Fractions as whole numbers of parts.
 
-ghost use Rattle.std.specs.Prelude.{◌≡◌, ◌^◌, ◌≤◌, ◌<ℤ◌, pos, map, length, None, Some, if◌then◌else◌};
+ghost use Rattle.std.specs.Prelude.{◌≡◌, ◌^◌, ◌≤◌, ◌<ℤ◌, pos, map, length, None, Some, FitsSigned, IsTrue, IfSome, if◌then◌else◌};
 ghost use Rattle.std.specs.Bool.{OnTrue};
+ghost use Rattle.std.specs.Int.{w32};
 ghost use Rattle.std.specs.List.{list_all};
 ghost use Rattle.tiff_dirs.specs.Numbers.{IsOf32Bits};
-ghost use Rattle.dng_tags.specs.Quantities.{in_parts, is_on};
+ghost use Rattle.dng_tags.specs.Quantities.{AreWithin, IsWithin, has, in_parts, is_on};
 
 use crate::values::Fractions;
 
@@ -35,6 +36,7 @@ impl Scale {
         requires room { length out.old ≡ length fractions.now }
         ensures all { result ≡ list_all (is_on self) fractions.now }
         ensures parts { OnTrue result (out.new ≡ map (in_parts self.parts) fractions.now) }
+        ensures within { OnTrue result (AreWithin self.most out.new) }
     {
         for i in 0..fractions.len() {
             match self.parts_of(fractions.at(i)) {
@@ -52,18 +54,27 @@ impl Scale {
         requires most { self.most ≤ 2 ^ 30 }
         requires numerator { IsOf32Bits fraction.0 }
         requires denominator { IsOf32Bits fraction.1 }
-        ensures { result ≡ (if is_on self fraction then Some (in_parts self.parts fraction) else None) }
+        ensures value { result ≡ (if is_on self fraction then Some (in_parts self.parts fraction) else None) }
+        ensures within { IfSome result (IsWithin self.most) }
     {
         let (numerator, denominator) = fraction;
         if denominator <= 0 {
             return None;
         }
         let parts = in_parts(self.parts, numerator, denominator);
+        if self.has(parts) { Some(parts as i32) } else { None }
+    }
+
+    // Whether a number of parts is not beyond the limit.
+    #[tactic(auto, unfolding(crate::specs::Quantities::has))]
+    fn has(self, parts: i64) -> bool
+        requires { self.most ≤ 2 ^ 30 }
+        ensures value { result ≡ has self parts }
+        ensures within { IsTrue result → IsWithin self.most parts }
+        ensures fits { IsTrue result → FitsSigned w32 parts }
+    {
         let most = i64::from(self.most);
-        if parts < -most || most < parts {
-            return None;
-        }
-        Some(parts as i32)
+        -most <= parts && parts <= most
     }
 }
 
