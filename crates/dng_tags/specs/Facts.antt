@@ -38,9 +38,9 @@ pub record AreParts (shape : Shape) (segments : List Segment) : Type 0 where
   pub covered : (r c : ℕ) → r < shape.rows → c < shape.cols → (k : ℕ) × (segment : Segment) × (slice_get segments k ≡ Some segment) × HasPixel segment.rect r c
   pub apart : (i k : ℕ) (one other : Segment) → slice_get segments i ≡ Some one → slice_get segments k ≡ Some other → (r c : ℕ) → HasPixel one.rect r c → HasPixel other.rect r c → i ≡ k
 
--- no segment passes the end of the file
-abbrev pub LieIn : List ℕ → List Segment → Type 0
-LieIn bytes segments = (k : ℕ) (segment : Segment) → slice_get segments k ≡ Some segment → segment.at + segment.length ≤ length bytes
+-- no segment passes the end of a file of this many bytes
+abbrev pub LieWithin : ℕ → List Segment → Type 0
+LieWithin len segments = (k : ℕ) (segment : Segment) → slice_get segments k ≡ Some segment → segment.at + segment.length ≤ len
 
 -- the levels of an active area of this many rows and columns
 pub record AreLevels (levels : Levels) (rows cols : ℕ) : Type 0 where
@@ -71,7 +71,7 @@ pub record IsFrame (frame : Frame) (bytes : List ℕ) : Type 0 where
   pub depth : (8 ≤ frame.depth) × (frame.depth ≤ 16)
   pub order : frame.order ≡ order_of bytes
   pub parts : AreParts frame.shape frame.segments
-  pub inside : LieIn bytes frame.segments
+  pub inside : LieWithin (length bytes) frame.segments
   pub pattern : Contains patterns frame.cfa
   pub active_some : IsNonEmpty frame.active
   pub active : LiesIn frame.active (whole_rect frame.shape.rows frame.shape.cols)

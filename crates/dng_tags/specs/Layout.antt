@@ -1,6 +1,6 @@
 -- The third and fourth groups: the strips or tiles, and that they lie in the file (TIFF 6.0, section 8, "StripOffsets",
 -- "RowsPerStrip", "StripByteCounts", and section 15, "Tiled Images"). The limits are this project's own.
-use Rattle.std.specs.Prelude.{ℕ, ◌+◌, ◌-◌, ◌*◌, ◌/◌, ◌%◌, ◌^◌, nat_le, nat_lt, ◌&&◌, if◌then◌else◌, Bool, true, false, List, map, length, slice_index, Option, None, Some, Result, Ok, Err, unwrap_or, min}
+use Rattle.std.specs.Prelude.{ℕ, ◌+◌, ◌-◌, ◌*◌, ◌/◌, ◌%◌, ◌^◌, ◌≤◌, nat_le, nat_lt, ◌&&◌, if◌then◌else◌, Bool, true, false, List, map, length, slice_index, Option, None, Some, Result, Ok, Err, unwrap_or, min}
 use Rattle.std.specs.List.{position, range_with_len}
 use Rattle.plane_view.specs.Rectangles.{height, width}
 use Rattle.plane_view.specs.declared.Rect.{Rect}
@@ -114,3 +114,18 @@ segments_of dirs shape =
     and_then (layout_of dirs shape) (λ layout.
     let segments = segments_in shape layout in
     refused_outside (position (passes_end (length dirs.bytes)) segments) segments)
+
+-- sides of a segment
+pub record HasSides (cut : Cut) : Type 0 where
+  pub some_rows : 1 ≤ cut.rows
+  pub rows : cut.rows ≤ 16384
+  pub some_cols : 1 ≤ cut.cols
+  pub cols : cut.cols ≤ 16384
+
+-- a layout that was checked
+pub record IsChecked (shape : Shape) (layout : Layout) : Type 0 where
+  pub sides : HasSides layout.cut
+  pub most : segment_count shape layout.cut ≤ 65536
+  pub coded : layout.cut.rows * layout.cut.cols ≤ 2 ^ 25
+  pub offsets : segment_count shape layout.cut ≤ length layout.offsets
+  pub counts : segment_count shape layout.cut ≤ length layout.counts

@@ -1,6 +1,28 @@
 //! The third and fourth groups: the strips or tiles, and that they lie in the file.
 
-use crate::values::Whole;
+ghost use Rattle.std.specs.Prelude.{◌≡◌, ◌*◌, ◌<◌, ◌≤◌, length, IfNone, IfOk, IfSome, Ok};
+ghost use Rattle.std.specs.List.{position};
+ghost use Rattle.plane_view.specs.Rectangles.{height, width};
+ghost use Rattle.dng_tags.specs.Answers.{Answers};
+ghost use Rattle.dng_tags.specs.Facts.{AreParts, IsRawShape, LieWithin};
+ghost use Rattle.dng_tags.specs.Layout.{HasSides, IsChecked, checked_layout, checked_tile_side, layout_of, parts, passes_end, rect_at, segment_at, segment_count, segments_across, segments_in, segments_of, strip_rows_of, strips_of, tiles_of};
+
+use crate::faults::FrameFault;
+use crate::record::Segment;
+use crate::tags::Tag;
+use crate::values::{Directories, Whole};
+use lists::Items;
+use plane_view::{Rect, Shape};
+use std::alloc::Global;
+
+/// The most rows or columns of a tile.
+const MAX_TILE_SIDE: u32 = 16384;
+
+/// The most segments.
+const MAX_SEGMENTS: u64 = 65536;
+
+/// The most coded samples of a segment.
+const MAX_CODED: u64 = 1 << 25;
 
 /// How an image is cut into segments.
 #[derive(Clone, Copy, Debug, PartialEq, Eq)]
@@ -13,10 +35,242 @@ pub struct Cut {
     pub padded: bool,
 }
 
+impl Cut {
+    // How many segments stand side by side.
+    fn across(self, shape: Shape) -> u32
+        requires shape { IsRawShape shape }
+        requires sides { HasSides self }
+        ensures { result ≡ segments_across shape self }
+    {
+        parts(shape.cols, self.cols)
+    }
+
+    // How many segments there are.
+    fn count(self, shape: Shape) -> u64
+        requires shape { IsRawShape shape }
+        requires sides { HasSides self }
+        ensures { result ≡ segment_count shape self }
+    {
+        u64::from(parts(shape.rows, self.rows)) * u64::from(self.across(shape))
+    }
+
+    // The pixels of segment k.
+    #[tactic(auto, using(crate::proofs::LayoutLemmas::top_within), unfolding(crate::specs::Layout::rect_at))]
+    fn rect(self, shape: Shape, k: u32) -> Rect
+        requires shape { IsRawShape shape }
+        requires sides { HasSides self }
+        requires within { k < segment_count shape self }
+        ensures value { result ≡ rect_at shape self k }
+        ensures some { result.top < result.bottom }
+    {
+        let across = self.across(shape);
+        let top = k / across * self.rows;
+        let left = k % across * self.cols;
+        Rect {
+            top,
+            left,
+            bottom: (top + self.rows).min(shape.rows),
+            right: (left + self.cols).min(shape.cols),
+        }
+    }
+}
+
+// How many parts of a size make up a length.
+fn parts(length: u32, size: u32) -> u32
+    requires length { length ≤ 8192 }
+    requires some { 1 ≤ size }
+    requires size { size ≤ 16384 }
+    ensures value { result ≡ parts length size }
+    ensures most { result ≤ 8192 }
+{
+    (length + (size - 1)) / size
+}
+
 /// How an image is cut, and where the segments stand in the file.
 #[derive(Drop)]
 pub struct Layout<'a> {
     pub cut: Cut,
     pub offsets: Whole<'a>,
     pub counts: Whole<'a>,
+}
+
+impl<'a> Layout<'a> {
+    // A layout that isn't too large, with an offset and a byte count for each segment.
+    #[tactic(auto, unfolding(crate::specs::Layout::checked_layout))]
+    fn checked(self, shape: Shape) -> Result<Layout<'a>, FrameFault>
+        requires shape { IsRawShape shape }
+        requires sides { HasSides self.cut }
+        ensures answer { result ≡ checked_layout shape self.entry }
+        ensures checked { IfOk result (IsChecked shape) }
+    {
+        let count = self.cut.count(shape);
+        let coded = u64::from(self.cut.rows) * u64::from(self.cut.cols);
+        if count > MAX_SEGMENTS
+            || coded > MAX_CODED
+            || u64::from(self.offsets.len()) < count
+            || u64::from(self.counts.len()) < count
+        {
+            return Err(FrameFault::Layout);
+        }
+        Ok(self)
+    }
+
+    // Segment k.
+    #[tactic(auto, unfolding(crate::specs::Layout::segment_at, crate::specs::Layout::rect_at))]
+    fn segment(&self, shape: Shape, k: u32) -> Segment
+        requires shape { IsRawShape shape }
+        requires checked { IsChecked shape self.now }
+        requires within { k < segment_count shape self.now.cut }
+        ensures { result ≡ segment_at shape self.now k }
+    {
+        let rect = self.cut.rect(shape, k);
+        let full_rows = if self.cut.padded {
+            self.cut.rows
+        } else {
+            rect.bottom - rect.top
+        };
+        Segment {
+            at: self.offsets.at(k),
+            length: self.counts.at(k),
+            rect,
+            full_rows,
+            full_cols: self.cut.cols,
+        }
+    }
+
+    // The segments.
+    #[tactic(auto, using(crate::proofs::LayoutLemmas::segments_more), unfolding(crate::specs::Layout::segments_in))]
+    fn segments(&self, alloc: Global, shape: Shape) -> Result<Items<Segment>, FrameFault>
+        requires shape { IsRawShape shape }
+        requires checked { IsChecked shape self.now }
+        ensures answer { Answers result (Ok (segments_in shape self.now)) }
+        ensures parts { IfOk result (AreParts shape) }
+    {
+        let count = self.cut.count(shape) as u32;
+        let mut segments = Vec::new(alloc);
+        for k in 0..count {
+            if segments.push(self.segment(shape, k)).is_err() {
+                return Err(FrameFault::Memory);
+            }
+        }
+        Ok(Items::from_vec(segments))
+    }
+}
+
+/// The strips or tiles, none of which passes the end of the file.
+///
+/// # Errors
+///
+/// `Layout`, `Outside`, `Memory`, and what reading the tags is refused for.
+#[tactic(auto, unfolding(crate::specs::Layout::segments_of))]
+pub fn read_segments(
+    alloc: Global,
+    dirs: &Directories<'_>,
+    shape: Shape,
+) -> Result<Items<Segment>, FrameFault>
+    requires { IsRawShape shape }
+    ensures answer { Answers result (segments_of dirs.now shape) }
+    ensures parts { IfOk result (AreParts shape) }
+    ensures inside { IfOk result (LieWithin (length dirs.now.bytes)) }
+{
+    let layout = read_layout(dirs, shape)?;
+    let segments = layout.segments(alloc, shape)?;
+    match first_outside(&segments, dirs.file_len()) {
+        Some(k) => Err(FrameFault::Outside { segment: k as u32 }),
+        None => Ok(segments),
+    }
+}
+
+// The number of the first segment that passes the end of a file of this many bytes.
+fn first_outside(segments: &Items<Segment>, file_len: u64) -> Option<usize>
+    ensures answer { result ≡ position (passes_end file_len) segments.now }
+    ensures some { IfSome result (λ k. k < length segments.now) }
+    ensures none { IfNone result (LieWithin file_len segments.now) }
+{
+    segments
+        .as_slice()
+        .iter()
+        .position(|segment| u64::from(segment.at) + u64::from(segment.length) > file_len)
+}
+
+#[tactic(auto, unfolding(crate::specs::Layout::layout_of))]
+fn read_layout<'a>(dirs: &Directories<'a>, shape: Shape) -> Result<Layout<'a>, FrameFault>
+    requires { IsRawShape shape }
+    ensures answer { result ≡ layout_of dirs.now shape }
+    ensures checked { IfOk result (IsChecked shape) }
+{
+    let layout = match dirs.number(Tag::TileWidth)? {
+        Some(width) => read_tiles(dirs, width)?,
+        None => read_strips(dirs, shape)?,
+    };
+    layout.checked(shape)
+}
+
+// Tiles, whose width was found.
+#[tactic(auto, unfolding(crate::specs::Layout::tiles_of))]
+fn read_tiles<'a>(dirs: &Directories<'a>, width: u32) -> Result<Layout<'a>, FrameFault>
+    ensures answer { result ≡ tiles_of dirs.now width }
+    ensures sides { IfOk result (λ layout. HasSides layout.cut) }
+{
+    let cols = tile_side(width)?;
+    let rows = tile_side(dirs.required_number(Tag::TileLength)?)?;
+    let offsets = dirs.required_whole(Tag::TileOffsets)?;
+    let counts = dirs.required_whole(Tag::TileByteCounts)?;
+    let cut = Cut {
+        rows,
+        cols,
+        padded: true,
+    };
+    Ok(Layout {
+        cut,
+        offsets,
+        counts,
+    })
+}
+
+// A side of a tile.
+#[tactic(auto, unfolding(crate::specs::Layout::checked_tile_side))]
+fn tile_side(side: u32) -> Result<u32, FrameFault>
+    ensures answer { result ≡ checked_tile_side side }
+    ensures range { IfOk result (λ side. (1 ≤ side) × (side ≤ 16384)) }
+{
+    if !(1..=MAX_TILE_SIDE).contains(&side) {
+        return Err(FrameFault::Layout);
+    }
+    Ok(side)
+}
+
+#[tactic(auto, unfolding(crate::specs::Layout::strips_of))]
+fn read_strips<'a>(dirs: &Directories<'a>, shape: Shape) -> Result<Layout<'a>, FrameFault>
+    requires { IsRawShape shape }
+    ensures answer { result ≡ strips_of dirs.now shape }
+    ensures sides { IfOk result (λ layout. HasSides layout.cut) }
+{
+    let offsets = dirs.required_whole(Tag::StripOffsets)?;
+    let rows = read_strip_rows(dirs, shape)?;
+    let counts = dirs.required_whole(Tag::StripByteCounts)?;
+    let cut = Cut {
+        rows,
+        cols: shape.cols,
+        padded: false,
+    };
+    Ok(Layout {
+        cut,
+        offsets,
+        counts,
+    })
+}
+
+// The rows of a strip, which are those of the image where nothing is told.
+#[tactic(auto, unfolding(crate::specs::Layout::strip_rows_of))]
+fn read_strip_rows(dirs: &Directories<'_>, shape: Shape) -> Result<u32, FrameFault>
+    requires { IsRawShape shape }
+    ensures answer { result ≡ strip_rows_of dirs.now shape }
+    ensures range { IfOk result (λ rows. (1 ≤ rows) × (rows ≤ 8192)) }
+{
+    let rows = dirs.number(Tag::RowsPerStrip)?.unwrap_or(u32::MAX);
+    if rows == 0 {
+        return Err(FrameFault::Layout);
+    }
+    Ok(rows.min(shape.rows))
 }
