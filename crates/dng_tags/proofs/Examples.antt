@@ -9,7 +9,7 @@ use Rattle.tiff_dirs.specs.declared.Order.TheVariants.{Little}
 use Rattle.dng_tags.specs.Area.{active_of, crop_of, crop_rect, extent_of, large_enough}
 use Rattle.dng_tags.specs.Black.{black_at, greatest_black, levels_of, levels_under, repeat_of, span_of, spanning, table_of, white_of}
 use Rattle.dng_tags.specs.Built.{are_plain_colours, are_plain_levels, is_built, is_one_strip}
-use Rattle.dng_tags.specs.Colours.{analog_of, calibration_in, calibration_of, colour_of, gain_of, gains_from, gains_in, gains_of, is_diagonal, matrix_in, matrix_of}
+use Rattle.dng_tags.specs.Colours.{analog_of, calibration_in, calibration_of, colour_of, gain_of, gains_in, gains_of, has_gain, is_diagonal, is_positive, matrix_in, matrix_of}
 use Rattle.dng_tags.specs.Form.{depth_of, form_of, format_of, lossless_of, number_or, photometric_of, required_number_of, required_numbers_of, samples_per_pixel_of, shape_of, side_of}
 use Rattle.dng_tags.specs.Frame.{frame_of, lacks, record_of, without_opcodes_of}
 use Rattle.dng_tags.specs.Layout.{checked_layout, checked_tile_side, layout_of, rect_at, segment_at, segments_in, segments_of, strip_rows_of, strips_of, tiles_of}
@@ -88,7 +88,7 @@ flat-no-header = refl
 
 -- a neutral of 1/2, 1, 2/3
 neutral-gains : gains_in (Some ((pos 1, pos 2) ∷ (pos 1, pos 1) ∷ (pos 2, pos 3) ∷ [])) ≡ Ok (8192 ∷ 4096 ∷ 6144 ∷ [])
-unfolding gains_from gain_of in_parts
+unfolding has_gain is_positive gain_of
 neutral-gains = refl
 
 -- -1/512, 1/512 and 1/1024 in 256ths: halves are rounded up

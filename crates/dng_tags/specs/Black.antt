@@ -54,14 +54,14 @@ repeat_of dirs =
     if nat_le 1 repeat.rows && nat_le repeat.rows 8 && nat_le 1 repeat.cols && nat_le repeat.cols 8
     then Ok repeat else Err LevelsFault)
 
--- levels of which there are this many, or what counts where they are absent
-abbrev pub levels_or : (count : ℕ) → Option (List (ℤ × ℤ)) → List ℤ → Result (List ℤ) FrameFault
-levels_or count None default = Ok default
-levels_or count (Some qs) default =
+-- levels of which there are this many; where they are absent, so many zeros
+abbrev pub levels_or : (count zeros : ℕ) → Option (List (ℤ × ℤ)) → Result (List ℤ) FrameFault
+levels_or count zeros None = Ok (replicate zeros (pos 0))
+levels_or count zeros (Some qs) =
     if length qs == count then on_scale level_scale LevelsFault qs else Err LevelsFault
 
-unfoldable pub levels_under : Dirs → Tag → (count : ℕ) → List ℤ → Result (List ℤ) FrameFault
-levels_under dirs tag count default = and_then (fractions_of dirs tag) (λ found. levels_or count found default)
+unfoldable pub levels_under : Dirs → Tag → (count zeros : ℕ) → Result (List ℤ) FrameFault
+levels_under dirs tag count zeros = and_then (fractions_of dirs tag) (λ found. levels_or count zeros found)
 
 -- the white level: that of the first sample; the greatest sample of the depth where nothing is told
 unfoldable pub white_of : Dirs → (depth : ℕ) → Result ℕ FrameFault
@@ -81,9 +81,9 @@ levels_of dirs depth active =
     and_then (table_of dirs) (λ table.
     and_then (repeat_of dirs) (λ repeat.
     let count = repeat.rows * repeat.cols in
-    and_then (levels_under dirs BlackLevel count (replicate count (pos 0))) (λ black.
-    and_then (levels_under dirs BlackLevelDeltaH (width active) []) (λ delta_h.
-    and_then (levels_under dirs BlackLevelDeltaV (height active) []) (λ delta_v.
+    and_then (levels_under dirs BlackLevel count count) (λ black.
+    and_then (levels_under dirs BlackLevelDeltaH (width active) 0) (λ delta_h.
+    and_then (levels_under dirs BlackLevelDeltaV (height active) 0) (λ delta_v.
     and_then (white_of dirs depth) (λ white.
     spanning active (record {
       table = table;

@@ -1,9 +1,9 @@
 -- The group of the colour tags (DNG 1.6, chapter 4, "ColorMatrix1" to "ForwardMatrix2", and chapter 6, "Mapping Camera Color
 -- Space to CIE XYZ Space"). The numbers of parts, their limits, and that a calibration is diagonal are this project's own.
-use Rattle.std.specs.Prelude.{ℕ, ◌*◌, ◌==◌, ◌&&◌, ◌||◌, if◌then◌else◌, ℤ, pos, negsuc, ◌*ℤ◌, int_le, int_lt, Bool, true, false, not, List, [], ◌∷◌, map, slice_index_or, Option, None, Some, Result, Ok, Err, unsigned_abs}
+use Rattle.std.specs.Prelude.{ℕ, ◌+◌, ◌*◌, ◌/◌, ◌==◌, nat_le, ◌&&◌, ◌||◌, if◌then◌else◌, ℤ, pos, negsuc, ◌*ℤ◌, int_le, int_lt, Bool, true, false, not, List, [], ◌∷◌, map, slice_index_or, Option, None, Some, Result, Ok, Err, unsigned_abs}
 use Rattle.std.specs.List.{list_all, range_with_len}
 use Rattle.dng_tags.specs.Answers.{and_then}
-use Rattle.dng_tags.specs.Quantities.{colour_scale, in_parts, on_scale}
+use Rattle.dng_tags.specs.Quantities.{colour_scale, on_scale}
 use Rattle.dng_tags.specs.Tags.{rule_of}
 use Rattle.dng_tags.specs.Values.{Dirs, fractions_of}
 use Rattle.dng_tags.specs.declared.faults.FrameFault.{FrameFault}
@@ -34,12 +34,18 @@ diagonal_of entries =
     slice_index_or entries 0 (pos 0) ∷ slice_index_or entries 4 (pos 0) ∷ slice_index_or entries 8 (pos 0) ∷ []
 
 abbrev pub is_zero : ℤ → Bool
-is_zero (pos n) = n == 0
-is_zero (negsuc n) = false
+is_zero n = unsigned_abs n == 0
 
--- whether the numerators off the diagonal are 0
+-- whether three numerators in a row are 0
+abbrev pub has_zeros : List (ℤ × ℤ) → (from : ℕ) → Bool
+has_zeros qs from =
+    is_zero (slice_index_or qs from (pos 0, pos 0)).0
+    && is_zero (slice_index_or qs (from + 1) (pos 0, pos 0)).0
+    && is_zero (slice_index_or qs (from + 2) (pos 0, pos 0)).0
+
+-- whether the numerators off the diagonal of a matrix of 3 by 3 are 0
 unfoldable pub is_diagonal : List (ℤ × ℤ) → Bool
-is_diagonal qs = list_all (λ i. is_zero (slice_index_or qs i (pos 0, pos 0)).0) (1 ∷ 2 ∷ 3 ∷ 5 ∷ 6 ∷ 7 ∷ [])
+is_diagonal qs = has_zeros qs 1 && has_zeros qs 5
 
 -- ones in 65536ths
 abbrev pub ones : List ℤ
@@ -65,27 +71,31 @@ analog_in (Some qs) =
 unfoldable pub analog_of : Dirs → Result (List ℤ) FrameFault
 analog_of dirs = and_then (fractions_of dirs AnalogBalance) (λ found. analog_in found)
 
--- the gain of a channel in 4096ths: the neutral's green over the channel, rounded
-unfoldable pub gain_of : (green channel : ℤ × ℤ) → ℤ
-gain_of green channel = in_parts 4096 (green.0 *ℤ channel.1, green.1 *ℤ channel.0)
-
 -- whether a number of the neutral is positive
-abbrev pub is_positive : ℤ × ℤ → Bool
+unfoldable pub is_positive : ℤ × ℤ → Bool
 is_positive q = int_lt (pos 0) q.0 && int_lt (pos 0) q.1
 
--- whether a gain is 1 to 2^20
-abbrev pub is_gain : ℤ → Bool
-is_gain gain = int_le (pos 1) gain && int_le gain (pos 1048576)
+-- the gain of a channel in 4096ths: the neutral's green over the channel, both positive, rounded
+unfoldable pub gain_of : (green channel : ℤ × ℤ) → ℕ
+gain_of green channel =
+    let above = unsigned_abs green.0 * unsigned_abs channel.1 in
+    let below = unsigned_abs green.1 * unsigned_abs channel.0 in
+    (2 * 4096 * above + below) / (2 * below)
+
+-- whether green and a channel are positive, and give a gain of 1 to 2^20
+unfoldable pub has_gain : (green channel : ℤ × ℤ) → Bool
+has_gain green channel =
+    is_positive green
+    && is_positive channel
+    && nat_le 1 (gain_of green channel)
+    && nat_le (gain_of green channel) 1048576
 
 -- the gains of the three channels from the neutral
-unfoldable pub gains_from : List (ℤ × ℤ) → List ℤ
-gains_from qs = map (gain_of (slice_index_or qs 1 (pos 0, pos 0))) qs
-
 abbrev pub gains_in : Option (List (ℤ × ℤ)) → Result (List ℕ) FrameFault
 gains_in None = Ok (4096 ∷ 4096 ∷ 4096 ∷ [])
 gains_in (Some qs) =
-    if list_all is_positive qs && list_all is_gain (gains_from qs)
-    then Ok (map unsigned_abs (gains_from qs)) else Err (colour_fault AsShotNeutral)
+    let green = slice_index_or qs 1 (pos 0, pos 0) in
+    if list_all (has_gain green) qs then Ok (map (gain_of green) qs) else Err (colour_fault AsShotNeutral)
 
 unfoldable pub gains_of : Dirs → Result (List ℕ) FrameFault
 gains_of dirs = and_then (fractions_of dirs AsShotNeutral) (λ found. gains_in found)

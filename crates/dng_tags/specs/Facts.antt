@@ -1,5 +1,5 @@
 -- What holds of the record of each frame that is read. The limits are this project's own.
-use Rattle.std.specs.Prelude.{◌≡◌, ℕ, ◌+◌, ◌*◌, ◌^◌, ◌<◌, ◌≤◌, ℤ, pos, ◌<ℤ◌, ◌⊎◌, List, [], ◌∷◌, length, slice_get, slice_index, Option, None, Some, IfSome}
+use Rattle.std.specs.Prelude.{◌≡◌, ℕ, ◌+◌, ◌*◌, ◌^◌, ◌<◌, ◌≤◌, ℤ, pos, ◌<ℤ◌, ◌⊎◌, List, length, slice_get, slice_index, Option, None, Some, IfSome}
 use Rattle.plane_view.specs.Rectangles.{HasPixel, IsNonEmpty, LiesIn, height, whole_rect, width}
 use Rattle.plane_view.specs.declared.Rect.{Rect}
 use Rattle.plane_view.specs.declared.Shape.{Shape}
@@ -42,18 +42,31 @@ pub record AreParts (shape : Shape) (segments : List Segment) : Type 0 where
 abbrev pub LieWithin : ℕ → List Segment → Type 0
 LieWithin len segments = (k : ℕ) (segment : Segment) → slice_get segments k ≡ Some segment → segment.at + segment.length ≤ len
 
--- the levels of an active area of this many rows and columns
-pub record AreLevels (levels : Levels) (rows cols : ℕ) : Type 0 where
+-- a pattern of black levels
+pub record IsBlackPattern (levels : Levels) : Type 0 where
+  pub some_rows : 1 ≤ levels.black_rows
+  pub rows : levels.black_rows ≤ 8
+  pub some_cols : 1 ≤ levels.black_cols
+  pub cols : levels.black_cols ≤ 8
+  pub count : length levels.black ≡ levels.black_rows * levels.black_cols
+  pub within : AreWithin 16777216 levels.black
+
+-- what so many rows or columns add
+pub record AreDeltas (deltas : List ℤ) (count : ℕ) : Type 0 where
+  pub none_or_all : (length deltas ≡ 0) ⊎ (length deltas ≡ count)
+  pub within : AreWithin 16777216 deltas
+
+-- levels of an active area of this many rows and columns, each in its range
+pub record AreRanged (levels : Levels) (rows cols : ℕ) : Type 0 where
   pub table : length levels.table ≤ 65536
-  pub black_rows : (1 ≤ levels.black_rows) × (levels.black_rows ≤ 8)
-  pub black_cols : (1 ≤ levels.black_cols) × (levels.black_cols ≤ 8)
-  pub black : length levels.black ≡ levels.black_rows * levels.black_cols
-  pub black_within : AreWithin 16777216 levels.black
-  pub delta_h : (levels.delta_h ≡ []) ⊎ (length levels.delta_h ≡ cols)
-  pub delta_h_within : AreWithin 16777216 levels.delta_h
-  pub delta_v : (levels.delta_v ≡ []) ⊎ (length levels.delta_v ≡ rows)
-  pub delta_v_within : AreWithin 16777216 levels.delta_v
+  pub pattern : IsBlackPattern levels
+  pub delta_h : AreDeltas levels.delta_h cols
+  pub delta_v : AreDeltas levels.delta_v rows
   pub white : (1 ≤ levels.white) × (levels.white ≤ 65535)
+
+-- such levels, whose white is above every black
+pub record AreLevels (levels : Levels) (rows cols : ℕ) : Type 0 where
+  pub ranged : AreRanged levels rows cols
   pub span : pos 0 <ℤ span_of levels rows cols
 
 -- a matrix, where it is there

@@ -11,5 +11,6 @@ pub mod Layout
 pub mod Origin
 pub mod Pattern
 pub mod Quantities
+pub mod Span
 pub mod Tags
 pub mod Values

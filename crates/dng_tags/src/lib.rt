@@ -3,6 +3,7 @@
 
 mod area;
 mod black;
+mod colours;
 mod faults;
 mod form;
 mod layout;
@@ -10,6 +11,7 @@ mod origin;
 mod pattern;
 mod quantities;
 mod record;
+mod span;
 mod tags;
 mod values;
 

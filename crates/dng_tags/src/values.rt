@@ -1,15 +1,21 @@
 //! Reading a tag's numbers by the tag's rule. An entry is looked up once, and its numbers are read in place.
 
-ghost use Rattle.std.specs.Prelude.{◌≡◌, ℕ, ◌*◌, ◌≤◌, ◌<◌, ℤ, pos, length, slice_index, slice_index_or, IsTrue};
+ghost use Rattle.std.specs.Prelude.{◌≡◌, ℕ, ◌*◌, ◌≤◌, ◌<◌, ℤ, pos, length, slice_index, slice_index_or, unwrap_or, [], IfOk, IsTrue, Ok};
 ghost use Rattle.tiff_dirs.specs.Header.{order_of};
 ghost use Rattle.tiff_dirs.specs.Kinds.{size_of};
 ghost use Rattle.tiff_dirs.specs.Numbers.{IsOf32Bits};
+ghost use Rattle.tiff_dirs.specs.Seen.{field_seen};
+ghost use Rattle.dng_tags.specs.Answers.{Answers, and_then};
 ghost use Rattle.dng_tags.specs.Frame.{lacks};
+ghost use Rattle.dng_tags.specs.declared.tags.Home.TheVariants.{Raw};
+ghost use Rattle.dng_tags.specs.declared.tags.Kinds.TheVariants.{Short};
 ghost use Rattle.dng_tags.specs.Tags.{allows, are_fractions, are_whole, rule_of};
-ghost use Rattle.dng_tags.specs.Values.{IfFound, entry_seen, field_at, fractions_at, fractions_of, number_of, numbers_at, numbers_of};
+ghost use Rattle.dng_tags.specs.Values.{IfFound, entry_seen, field_at, fractions_at, fractions_of, number_of, numbers_at, numbers_in, numbers_of};
 
 use crate::faults::FrameFault;
 use crate::tags::{Home, Tag};
+use lists::Items;
+use std::alloc::Global;
 use std::marker::Model;
 use tiff_dirs::{Dir, Entry, EntryFault, Order, Tiff};
 
@@ -239,4 +245,43 @@ impl<'a> Directories<'a> {
     {
         self.tiff.bytes().len() as u64
     }
+
+    /// The numbers under a tag of 16-bit numbers; none where the tag is absent.
+    ///
+    /// # Errors
+    ///
+    /// `Memory`, and what reading the tag is refused for.
+    #[tactic(auto, unfolding(crate::specs::Values::numbers_of, crate::specs::Values::numbers_at))]
+    pub fn shorts(&self, alloc: Global, tag: Tag) -> Result<Items<u16>, FrameFault>
+        requires kinds { (rule_of tag).kinds ≡ Short }
+        requires home { (rule_of tag).home ≡ Raw }
+        ensures answer { Answers result (and_then (numbers_of self.now tag) (λ found. Ok (unwrap_or found []))) }
+        ensures most { IfOk result (λ numbers. length numbers ≤ (rule_of tag).most) }
+    {
+        match field_in(self.tiff, &self.raw, tag)? {
+            Some(entry) => copied(alloc, self.tiff, &entry),
+            None => Ok(Items::from_vec(Vec::new(alloc))),
+        }
+    }
+}
+
+// The numbers of an entry of 16-bit numbers.
+#[tactic(auto, using(crate::proofs::ValuesLemmas::numbers_more), unfolding(crate::specs::Values::numbers_in))]
+fn copied<'a>(
+    alloc: Global,
+    tiff: &'a Tiff<'a>,
+    entry: &Entry<'a>,
+) -> Result<Items<u16>, FrameFault>
+    requires short { entry.now.kind ≡ 3 }
+    requires whole { length entry.now.value.now ≡ entry.now.count * size_of entry.now.kind }
+    ensures answer { Answers result (Ok (numbers_in (order_of tiff.now) (field_seen entry.now))) }
+    ensures count { IfOk result (λ numbers. length numbers ≡ entry.now.count) }
+{
+    let mut numbers = Vec::new(alloc);
+    for i in 0..entry.count {
+        if numbers.push(tiff.number(entry, i) as u16).is_err() {
+            return Err(FrameFault::Memory);
+        }
+    }
+    Ok(Items::from_vec(numbers))
 }
