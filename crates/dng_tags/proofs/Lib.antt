@@ -3,4 +3,5 @@ mod Examples
 pub mod LayoutLemmas
 pub mod ListLemmas
 pub mod OriginLemmas
+pub mod RawLemmas
 pub mod ValuesLemmas

@@ -11,6 +11,7 @@ pub mod Layout
 pub mod Origin
 pub mod Pattern
 pub mod Quantities
+pub mod Raw
 pub mod Span
 pub mod Tags
 pub mod Values

@@ -1,0 +1,69 @@
+-- The raw plane of a frame, and which of its segments can't be decoded (TIFF 6.0, section 8, "StripOffsets", and section 15,
+-- "Tiled Images"; DNG 1.6, chapter 4, "BitsPerSample"). That segments are looked at in their order is this project's own.
+use Rattle.std.specs.Prelude.{ℕ, ◌+◌, ◌-◌, ◌*◌, nat_lt, if◌then◌else◌, List, [], ◌∷◌, length, slice_index, slice_range, Option, None, Some}
+use Rattle.std.specs.List.{find}
+use Rattle.std.specs.Option.{option_map_or}
+use Rattle.plane_view.specs.Plane.{Plane, plane_of}
+use Rattle.plane_view.specs.Rectangles.{has_pixel}
+use Rattle.plane_view.specs.declared.Shape.{Shape}
+use Rattle.strip_unpack.specs.Samples.{needed_bytes, unpacked}
+use Rattle.tiff_dirs.specs.declared.Order.{Order}
+use Rattle.dng_tags.specs.declared.faults.FrameFault.{FrameFault}
+use Rattle.dng_tags.specs.declared.faults.FrameFault.TheVariants.{Segment as SegmentRefused}
+use Rattle.dng_tags.specs.declared.faults.SegmentFault.{SegmentFault}
+use Rattle.dng_tags.specs.declared.faults.SegmentFault.TheVariants.{Short}
+use Rattle.dng_tags.specs.declared.record.Frame.{Frame}
+use Rattle.dng_tags.specs.declared.record.Segment.{Segment}
+
+-- the bytes of a segment
+abbrev pub segment_bytes : List ℕ → Segment → List ℕ
+segment_bytes bytes segment = slice_range bytes segment.at (segment.at + segment.length)
+
+-- how many samples of a segment are coded
+abbrev pub coded_count : Segment → ℕ
+coded_count segment = segment.full_rows * segment.full_cols
+
+-- the coded samples of a segment, row by row
+unfoldable pub coded_samples : List ℕ → Order → (depth : ℕ) → Segment → List ℕ
+coded_samples bytes order depth segment =
+    unpacked order depth segment.full_rows segment.full_cols (segment_bytes bytes segment)
+
+-- where the sample of the pixel at row r, column c of the image stands among the coded samples of its segment
+abbrev pub coded_place : Segment → (r c : ℕ) → ℕ
+coded_place segment r c = (r - segment.rect.top) * segment.full_cols + (c - segment.rect.left)
+
+-- the raw sample at row r, column c of the image, from the segment whose rectangle has the pixel
+unfoldable pub raw_sample : List ℕ → Order → (depth : ℕ) → List Segment → (r c : ℕ) → ℕ
+raw_sample bytes order depth segments r c =
+    option_map_or (λ segment. slice_index (coded_samples bytes order depth segment) (coded_place segment r c))
+        (find (λ segment. has_pixel r c segment.rect) segments) 0
+
+-- the plane of an image's segments
+unfoldable pub segments_plane : List ℕ → Order → (depth : ℕ) → Shape → List Segment → Plane
+segments_plane bytes order depth shape segments =
+    plane_of shape.rows shape.cols 1 (λ r c p. raw_sample bytes order depth segments r c)
+
+-- the raw plane
+abbrev pub raw : List ℕ → Frame → Plane
+raw bytes frame = segments_plane bytes frame.order frame.depth frame.shape frame.segments
+
+-- why a segment can't be decoded, if it can't be
+unfoldable pub segment_fault : List ℕ → (depth : ℕ) → Segment → Option SegmentFault
+segment_fault bytes depth segment =
+    let needed = needed_bytes depth segment.full_rows segment.full_cols in
+    let had = length (segment_bytes bytes segment) in
+    if nat_lt had needed then Some (Short (record { needed = needed; had = had })) else None
+
+abbrev pub refused_or : ℕ → Option SegmentFault → Option FrameFault → Option FrameFault
+refused_or k (Some why) later = Some (SegmentRefused k why)
+refused_or k None later = later
+
+-- the refusal of the first segment that can't be decoded, where the first segment has the number k
+unfoldable pub fault_from : List ℕ → (depth k : ℕ) → List Segment → Option FrameFault
+fault_from bytes depth k [] = None
+fault_from bytes depth k (segment ∷ segments) =
+    refused_or k (segment_fault bytes depth segment) (fault_from bytes depth (k + 1) segments)
+
+-- the last step of the frame definition: the refusal of the first segment that can't be decoded, if there is one
+abbrev pub undecoded : List ℕ → Frame → Option FrameFault
+undecoded bytes frame = fault_from bytes frame.depth 0 frame.segments
