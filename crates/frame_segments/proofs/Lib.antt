@@ -1,0 +1,3 @@
+pub mod Decoding
+mod Examples
+pub mod Opening

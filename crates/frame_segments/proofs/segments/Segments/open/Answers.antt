@@ -1,0 +1,28 @@
+use Rattle.std.proofs.Common.{◌≡◌, ◌-◌, List, ℕ, Some, ap, length, slice_get, sym, subst, arith}
+use Rattle.dng_tags.specs.declared.record.Segment.{Segment}
+use Rattle.frame_segments.specs.Buffers.{AreOpened}
+use Rattle.frame_segments.proofs.Opening.{opened, refilled}
+use Rattle.frame_segments.proofs.segments.Segments.open.Goals as goal
+
+pub invariant_of-result : goal.invariant_of-result
+invariant_of-result c =
+    let bytes = c.args.bytes.now in
+    let frame = c.args.frame.now in
+    let items = c.in-Ok-from_slice.segments in
+    let lent = c.as_slice-segments.result.now in
+    let buffer = c.decode_all.new.buffer in
+    let copied : items ≡ lent = c.in-Ok-from_slice.ensures in
+    let same : items ≡ frame.segments = subst (λ (xs : List Segment). items ≡ xs) c.as_slice-segments.ensures copied in
+    let made = ap length c.deref_mut.ensures.value in
+    let long : length buffer ≡ c.in-Ok.buffer.len = omega arith in
+    let size = ap length copied in
+    let count = ap length same in
+    let some = c.requires.frame.parts.some in
+    let P : List ℕ → Type 0 = λ xs. AreOpened bytes frame.order frame.depth frame.shape items xs (c.len.result - 1) in
+    let of_lent : (k : ℕ) (segment : Segment) → slice_get items k ≡ Some segment → slice_get lent k ≡ Some segment = λ k segment at. subst (λ (xs : List Segment). slice_get xs k ≡ Some segment) copied at in
+    subst P (sym (refilled c.in-Ok.buffer.len buffer _ long))
+    (opened bytes frame items buffer (c.len.result - 1) c.requires.frame same
+    (λ k segment at. let most = c.largest_count.ensures k segment (of_lent k segment at) in omega (arith, most, c.in-Ok.ensures.len))
+    (λ k segment at. c.in_ok-decode_all.ensures.enough k segment (of_lent k segment at))
+    (λ k segment last at. c.in_ok-decode_all.ensures.last k segment (omega (arith, size)) (of_lent k segment at))
+    (omega (arith, c.len.ensures, some, count)))
