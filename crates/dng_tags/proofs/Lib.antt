@@ -4,4 +4,5 @@ pub mod LayoutLemmas
 pub mod ListLemmas
 pub mod OriginLemmas
 pub mod RawLemmas
+pub mod SpanLemmas
 pub mod ValuesLemmas

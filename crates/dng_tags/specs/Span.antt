@@ -3,12 +3,16 @@ use Rattle.std.specs.Prelude.{◌≡◌, ℕ, ◌+◌, ◌*◌, ◌%◌, ◌<◌
 use Rattle.dng_tags.specs.Black.{black_at}
 use Rattle.dng_tags.specs.declared.record.Levels.{Levels}
 
+-- a value of a function at one of the numbers of which P holds
+pub record IsReached (P : ℕ → Type 0) (f : ℕ → ℤ) (value : ℤ) : Type 0 where
+  pub at : ℕ
+  pub there : P at
+  pub same : f at ≡ value
+
 -- the greatest of a function over the numbers of which P holds
 pub record IsGreatest (P : ℕ → Type 0) (f : ℕ → ℤ) (most : ℤ) : Type 0 where
   pub bound : (k : ℕ) → P k → f k ≤ℤ most
-  pub at : ℕ
-  pub there : P at
-  pub reached : f at ≡ most
+  pub reached : IsReached P f most
 
 -- the place k is one of count, and falls on place first of a pattern
 pub record FallsOn (count step first k : ℕ) : Type 0 where
@@ -26,11 +30,15 @@ across_at levels i c =
     slice_index_or levels.black (i * levels.black_cols + c % levels.black_cols) (pos 0)
     +ℤ slice_index_or levels.delta_h c (pos 0)
 
--- the greatest black level of the rows of which P holds
-pub record IsGreatestBlack (P : ℕ → Type 0) (levels : Levels) (cols : ℕ) (most : ℤ) : Type 0 where
-  pub bound : (r c : ℕ) → P r → c < cols → black_at levels r c ≤ℤ most
+-- a black level of one of the rows of which P holds
+pub record IsReachedBlack (P : ℕ → Type 0) (levels : Levels) (cols : ℕ) (value : ℤ) : Type 0 where
   pub row : ℕ
   pub col : ℕ
   pub there : P row
   pub within : col < cols
-  pub reached : black_at levels row col ≡ most
+  pub same : black_at levels row col ≡ value
+
+-- the greatest black level of the rows of which P holds
+pub record IsGreatestBlack (P : ℕ → Type 0) (levels : Levels) (cols : ℕ) (most : ℤ) : Type 0 where
+  pub bound : (r c : ℕ) → P r → c < cols → black_at levels r c ≤ℤ most
+  pub reached : IsReachedBlack P levels cols most

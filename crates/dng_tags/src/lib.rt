@@ -6,6 +6,7 @@ mod black;
 mod colours;
 mod faults;
 mod form;
+mod frame;
 mod layout;
 mod origin;
 mod pattern;
@@ -15,5 +16,6 @@ mod span;
 mod tags;
 mod values;
 
+pub use frame::{MAX_BYTES, read_frame};
 pub use faults::{FrameFault, SegmentFault};
 pub use record::{Colour, Frame, Levels, Segment};
