@@ -37,7 +37,7 @@ pub struct Repeat {
 /// # Errors
 ///
 /// `Levels`, `Memory`, and what reading the tags is refused for.
-#[tactic(auto, unfolding(crate::specs::Black::levels_of))]
+#[tactic(auto, unfolding(crate::specs::Black::levels_of, crate::specs::Black::table_of, crate::specs::Black::spanning))]
 pub fn read_levels(
     alloc: Global,
     dirs: &Directories<'_>,
