@@ -1,12 +1,14 @@
 -- The search for the raw image's directory, one offset after the other.
-use Rattle.std.proofs.Common.{◌≡◌, ℕ, ◌+◌, ◌<◌, ◌≤◌, nat_eq, List, length, drop, slice_index, Result, Ok, Err, false, refl, arith, add-one}
+use Rattle.std.proofs.Common.{◌≡◌, ℕ, ◌+◌, ◌<◌, ◌≤◌, nat_eq, List, length, drop, slice_index, Result, Ok, Err, Bool, true, false, cond, refl, arith, add-one}
 use Rattle.std.specs.Prelude.{if◌then◌else◌, ◌==◌}
 use Rattle.std.proofs.lemmas.Bool.Decides.{nat_tests}
 use Rattle.std.proofs.Math.Seq.{drop-cons}
 use Rattle.std.proofs.lemmas.List.{drop_all}
-use Rattle.tiff_dirs.specs.Header.{directory_of}
+use Rattle.tiff_dirs.specs.Header.{directory_fits, directory_of, first_directory, has_header, open_of}
+use Rattle.tiff_dirs.specs.declared.TiffFault.{TiffFault}
+use Rattle.tiff_dirs.specs.declared.TiffFault.TheVariants.{BadDirectory as BadDirectoryOfFile, NotTiff as NotTiffOfFile}
 use Rattle.dng_tags.specs.Answers.{and_then}
-use Rattle.dng_tags.specs.Origin.{first_raw, refusing, subfile_type_at}
+use Rattle.dng_tags.specs.Origin.{first_raw, refusing, subfile_type_at, tiff_of}
 use Rattle.dng_tags.specs.declared.faults.FrameFault.{FrameFault}
 use Rattle.dng_tags.specs.declared.faults.FrameFault.TheVariants.{NoRaw}
 
@@ -27,3 +29,13 @@ pub first_raw_passed : (bytes offsets : List ℕ) (i dir kind : ℕ) → i < len
 first_raw_passed bytes offsets i dir kind within there told other =
     let untrue : nat_eq kind 0 ≡ false = grind (arith, nat_tests) in
     rw (first_raw_step bytes offsets i within, there, told, untrue) refl
+
+-- a file that was opened has the bytes that it was opened over
+opened : (header fits : Bool) (fault : TiffFault) (bytes file : List ℕ) → refusing (cond header (cond fits (Ok bytes) (Err fault)) (Err NotTiffOfFile)) ≡ Ok file → file ≡ bytes
+opened true true fault bytes file e = cc
+opened true false fault bytes file e = cc
+opened false fits fault bytes file e = cc
+
+pub file_is : (bytes file : List ℕ) → tiff_of bytes ≡ Ok file → file ≡ bytes
+unfolding tiff_of open_of
+file_is bytes file e = opened (has_header bytes) (directory_fits bytes (first_directory bytes)) (BadDirectoryOfFile (first_directory bytes)) bytes file e

@@ -64,5 +64,5 @@ record_of dirs =
 -- the frame of a file of at most 2^28 bytes
 unfoldable pub frame_of : List ℕ → Result Frame FrameFault
 frame_of bytes =
-    and_then (tiff_of bytes) (λ _.
-    and_then (origin_of bytes) (λ dirs. record_of dirs))
+    and_then (tiff_of bytes) (λ file.
+    and_then (origin_of file) (λ dirs. record_of dirs))

@@ -30,7 +30,7 @@ pub const MAX_BYTES: u64 = 1 << 28;
 /// `Outside`), the pattern (`Cfa`), opcode lists (`NotYet`), the active area (`Active`), the levels (`Levels`), the
 /// size at demosaicing (`Size`), the crop (`Crop`), the colours (`Colour`). In each of them a tag may be refused as
 /// `FloatTag` or `BadEntry`. `Memory` where there was none for the lists.
-#[tactic(auto, unfolding(crate::specs::Frame::frame_of, crate::specs::Origin::tiff_of))]
+#[tactic(auto, unfolding(crate::specs::Frame::frame_of))]
 pub fn read_frame(alloc: Global, bytes: &[u8]) -> Result<Frame, FrameFault>
     requires { length bytes.now ≤ 2 ^ 28 }
     ensures answer { Answers result (frame_of bytes.now) }

@@ -40,9 +40,10 @@ impl Version {
 /// # Errors
 ///
 /// `NotTiff`, `BadDirectory`.
-#[tactic(auto, unfolding(crate::specs::Origin::tiff_of))]
+#[tactic(auto, using(crate::proofs::OriginLemmas::file_is), unfolding(crate::specs::Origin::tiff_of))]
 pub fn open(bytes: &[u8]) -> Result<Tiff<'_>, FrameFault>
-    ensures { result ≡ tiff_of bytes.now }
+    ensures answer { result ≡ tiff_of bytes.now }
+    ensures whole { IfOk result (λ file. file ≡ bytes.now) }
 {
     refuse(Tiff::open(bytes))
 }
@@ -65,7 +66,8 @@ fn refuse<T>(found: Result<T, TiffFault>) -> Result<T, FrameFault>
 /// `NotDng`, `Newer`, `BadDirectory`, `NoRaw`, and what reading the tags is refused for.
 #[tactic(auto, unfolding(crate::specs::Origin::origin_of))]
 pub fn read_origin<'a>(tiff: &'a Tiff<'a>) -> Result<Directories<'a>, FrameFault>
-    ensures { result ≡ origin_of tiff.now }
+    ensures answer { result ≡ origin_of tiff.now }
+    ensures whole { IfOk result (λ dirs. dirs.bytes ≡ tiff.now) }
 {
     let version = read_version(tiff)?;
     check_needed_version(tiff, version)?;
