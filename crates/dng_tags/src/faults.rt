@@ -1,6 +1,10 @@
 //! Why a frame is refused.
 
+ghost use Rattle.std.specs.Prelude.{◌≡◌, ◌+◌, ◌≤◌, ◌++◌, length};
+ghost use Rattle.dng_tags.specs.FaultText.{fault_text, named, segment_fault_text};
+
 use strip_unpack::Short;
+use text_line::Line;
 
 /// Why a segment can't be decoded.
 #[derive(Clone, Copy, Debug, PartialEq, Eq)]
@@ -60,4 +64,74 @@ pub enum FrameFault {
     NotYet,
     /// There was no memory.
     Memory,
+}
+
+/// The most bytes that a fault takes in a line.
+pub const MAX_FAULT_TEXT: usize = 76;
+
+impl SegmentFault {
+    /// Appends the fault's name and its fields, each after a space.
+    pub fn say(&self, line: &mut Line)
+        requires { length line.old + 47 ≤ 128 }
+        ensures text { line.new ≡ line.old ++ segment_fault_text self.now }
+        ensures within { length line.new ≤ length line.old + 47 }
+    {
+        match self {
+            SegmentFault::Short(short) => {
+                line.push(b"Short");
+                line.push_field(short.needed);
+                line.push_field(short.had);
+            }
+        }
+    }
+}
+
+impl FrameFault {
+    /// Appends the fault's name and its fields, each after a space: a fault takes at most [`MAX_FAULT_TEXT`] bytes.
+    pub fn say(&self, line: &mut Line)
+        requires { length line.old + 76 ≤ 128 }
+        ensures text { line.new ≡ line.old ++ fault_text self.now }
+        ensures within { length line.new ≤ length line.old + 76 }
+    {
+        match *self {
+            FrameFault::NotTiff => line.push(b"NotTiff"),
+            FrameFault::BadDirectory { at } => say_number(line, b"BadDirectory", at),
+            FrameFault::BadEntry { tag } => say_number(line, b"BadEntry", tag.into()),
+            FrameFault::FloatTag { tag } => say_number(line, b"FloatTag", tag.into()),
+            FrameFault::NotDng => line.push(b"NotDng"),
+            FrameFault::Newer => line.push(b"Newer"),
+            FrameFault::NoRaw => line.push(b"NoRaw"),
+            FrameFault::Photometric { v } => say_number(line, b"Photometric", v),
+            FrameFault::Compression { v } => say_number(line, b"Compression", v),
+            FrameFault::Depth { v } => say_number(line, b"Depth", v),
+            FrameFault::Samples { v } => say_number(line, b"Samples", v),
+            FrameFault::Size => line.push(b"Size"),
+            FrameFault::Layout => line.push(b"Layout"),
+            FrameFault::Outside { segment } => say_number(line, b"Outside", segment),
+            FrameFault::Cfa => line.push(b"Cfa"),
+            FrameFault::Levels => line.push(b"Levels"),
+            FrameFault::Active => line.push(b"Active"),
+            FrameFault::Colour { tag } => say_number(line, b"Colour", tag.into()),
+            FrameFault::Crop => line.push(b"Crop"),
+            FrameFault::Segment { segment, why } => {
+                say_number(line, b"Segment", segment);
+                line.push(b" ");
+                why.say(line);
+            }
+            FrameFault::TooLong => line.push(b"TooLong"),
+            FrameFault::Format { v } => say_number(line, b"Format", v),
+            FrameFault::NotYet => line.push(b"NotYet"),
+            FrameFault::Memory => line.push(b"Memory"),
+        }
+    }
+}
+
+// Appends a name and a number after a space.
+fn say_number(line: &mut Line, name: &[u8], number: u32)
+    requires { length line.old + length name.now + 21 ≤ 128 }
+    ensures text { line.new ≡ line.old ++ named name.now number }
+    ensures within { length line.new ≤ length line.old + length name.now + 21 }
+{
+    line.push(name);
+    line.push_field(number.into());
 }

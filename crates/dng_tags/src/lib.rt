@@ -3,6 +3,7 @@
 
 mod area;
 mod black;
+mod built;
 mod colours;
 mod faults;
 mod form;
@@ -17,5 +18,5 @@ mod tags;
 mod values;
 
 pub use frame::{MAX_BYTES, read_frame};
-pub use faults::{FrameFault, SegmentFault};
+pub use faults::{FrameFault, MAX_FAULT_TEXT, SegmentFault};
 pub use record::{Colour, Frame, Levels, Segment};
