@@ -1,7 +1,7 @@
 -- The buffer that segments are decoded into. This is this project's own.
-use Rattle.std.specs.Prelude.{◌≡◌, ℕ, ◌+◌, ◌^◌, ◌≤◌, List, length, slice_get, Some, take}
+use Rattle.std.specs.Prelude.{◌≡◌, ℕ, ◌+◌, ◌≤◌, List, length, slice_get, Some, take}
 use Rattle.plane_view.specs.Rectangles.{IsNonEmpty, height, width}
-use Rattle.plane_view.specs.Shapes.{IsShape}
+use Rattle.plane_view.specs.Shapes.{IsShape, max_samples, max_side}
 use Rattle.plane_view.specs.declared.Shape.{Shape}
 use Rattle.stage_core.specs.Bases.{AreCells}
 use Rattle.strip_unpack.specs.Samples.{needed_bytes}
@@ -13,11 +13,11 @@ use Rattle.frame_segments.specs.Opened.{rects_of}
 -- all pixels of a segment are coded, within limits
 pub record IsCoded (segment : Segment) : Type 0 where
   pub some : IsNonEmpty segment.rect
-  pub bottom : segment.rect.bottom ≤ 8192
-  pub right : segment.rect.right ≤ 8192
+  pub bottom : segment.rect.bottom ≤ max_side
+  pub right : segment.rect.right ≤ max_side
   pub rows : height segment.rect ≤ segment.full_rows
   pub cols : width segment.rect ≤ segment.full_cols
-  pub count : coded_count segment ≤ 2 ^ 25
+  pub count : coded_count segment ≤ max_samples
 
 -- a segment lies in the bytes, and a buffer has room for what is coded
 pub record Fits (bytes buffer : List ℕ) (segment : Segment) : Type 0 where
