@@ -20,18 +20,18 @@ use Rattle.ljpeg_predict.specs.declared.segments.Kind.TheVariants as kind
 
 -- ---- steps that were not refused
 
-guard_ok : {X : Type 0} (b : Bool) (f : JpegFault) (r : Result X JpegFault) (x : X) → cond b (Err f) r ≡ Ok x → (b ≡ false) × (r ≡ Ok x)
+pub guard_ok : {X : Type 0} (b : Bool) (f : JpegFault) (r : Result X JpegFault) (x : X) → cond b (Err f) r ≡ Ok x → (b ≡ false) × (r ≡ Ok x)
 guard_ok true f r x e = absurd (cc)
 guard_ok false f r x e = (refl, e)
 
-bind_ok : {X Y : Type 0} (r : Result X JpegFault) (next : X → Result Y JpegFault) (y : Y) → (r >>= next) ≡ Ok y → (x : X) × (r ≡ Ok x) × (next x ≡ Ok y)
+pub bind_ok : {X Y : Type 0} (r : Result X JpegFault) (next : X → Result Y JpegFault) (y : Y) → (r >>= next) ≡ Ok y → (x : X) × (r ≡ Ok x) × (next x ≡ Ok y)
 bind_ok (Ok x) next y e = (x, refl, e)
 bind_ok (Err f) next y e = absurd (cc)
 
-abbrev ok : {X : Type 0} → X → Result X JpegFault
+abbrev pub ok : {X : Type 0} → X → Result X JpegFault
 ok x = Ok x
 
-ok_is : {X : Type 0} (x y : X) → ok x ≡ ok y → x ≡ y
+pub ok_is : {X : Type 0} (x y : X) → ok x ≡ ok y → x ≡ y
 ok_is x y e = cc
 
 -- ---- one table
@@ -88,7 +88,7 @@ set_free tables number table free is k =
     ]
 
 -- a choice of two answers
-chosen : {X : Type 0} (b : Bool) (r s : Result X JpegFault) (x : X) → cond b r s ≡ Ok x → (r ≡ Ok x) ⊎ (s ≡ Ok x)
+pub chosen : {X : Type 0} (b : Bool) (r s : Result X JpegFault) (x : X) → cond b r s ≡ Ok x → (r ≡ Ok x) ⊎ (s ≡ Ok x)
 chosen true r s x e = inl e
 chosen false r s x e = inr e
 

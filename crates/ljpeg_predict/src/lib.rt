@@ -9,6 +9,8 @@ mod lines;
 mod samples;
 mod scan;
 mod segments;
+#[cfg(test)]
+mod tests;
 
 use headers::read_headers;
 use ljpeg_huffman::BitFault;
