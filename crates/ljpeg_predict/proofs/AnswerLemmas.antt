@@ -1,5 +1,5 @@
 -- What a stream answers, by its headers.
-use Rattle.std.proofs.Common.{◌≡◌, ◌≢◌, ℕ, List, Result, Ok, Err, refl, sym, ap, ◌∙◌, subst, eq-eqb, ne_eqb}
+use Rattle.std.proofs.Common.{◌≡◌, ◌≢◌, ℕ, List, Result, Ok, Err, sym, ap, ◌∙◌, subst, eq-eqb, ne_eqb}
 use Rattle.std.proofs.lemmas.Bool.{cond-true, cond-false}
 use Rattle.ljpeg_predict.specs.Chain.{◌>>=◌}
 use Rattle.ljpeg_predict.specs.Headers.{headers_of, sized}

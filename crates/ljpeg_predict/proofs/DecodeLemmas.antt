@@ -1,5 +1,5 @@
 -- Lines that are decoded one after the other.
-use Rattle.std.proofs.Common.{◌≡◌, ◌≢◌, ℕ, zero, suc, ◌+◌, ◌-◌, ◌*◌, ◌%◌, ◌<◌, ◌≤◌, inl, inr, Bool, ℤ, pos, ◌+ℤ◌, List, [], ◌∷◌, ◌++◌, length, map, get_or, refl, sym, ap, ap₂, ◌∙◌, subst, arith, append_assoc, length-append, zero-add}
+use Rattle.std.proofs.Common.{◌≡◌, ℕ, zero, suc, ◌+◌, ◌-◌, ◌*◌, ◌%◌, ◌<◌, ◌≤◌, inl, inr, Bool, ℤ, pos, ◌+ℤ◌, List, [], ◌++◌, length, get_or, refl, sym, ap, ap₂, ◌∙◌, subst, arith, append_assoc, length-append}
 use Rattle.std.proofs.Math.Nat.{add-mul-mod_self_right, mul-le-mul_right}
 use Rattle.std.proofs.lemmas.Bool.{cases_lt}
 use Rattle.std.proofs.lemmas.List.{get_or-append-add, get_or-map, get_or_append_left, length-map}
@@ -43,10 +43,10 @@ turns_anew scan lines size e =
 
 -- one more line
 module _ (scan : Scan) (some : 0 < components scan) (samples above line more numbers : List ℕ) (lines : ℕ) (middle rest : List Bool)
-  (long : length above ≡ lines * row_length scan) (row : length line ≡ row_length scan) (width : 0 < row_length scan)
-  (front : (k : ℕ) → k < length above → get_or samples k 0 ≡ get_or above k 0)
-  (before : Decoded scan samples lines middle) (takes : Takes (table_at scan) middle numbers rest) (size : length numbers ≡ row_length scan)
-  (is : IsLine scan above numbers line) where
+    (long : length above ≡ lines * row_length scan) (row : length line ≡ row_length scan) (width : 0 < row_length scan)
+    (front : (k : ℕ) → k < length above → get_or samples k 0 ≡ get_or above k 0)
+    (before : Decoded scan samples lines middle) (takes : Takes (table_at scan) middle numbers rest) (size : length numbers ≡ row_length scan)
+    (is : IsLine scan above numbers line) where
   abbrev new : List ℕ
   new = above ++ (line ++ more)
 
@@ -89,13 +89,13 @@ module _ (scan : Scan) (some : 0 < components scan) (samples above line more num
     taken = before.taken ++ takes.taken;
     parts = before.parts ∙ ap (λ x. before.taken ++ x) takes.parts ∙ sym (append_assoc before.taken takes.taken rest);
     spelled = Spells-append before.values takes.values (table_at scan) before.taken takes.taken before.spelled
-      (subst (λ ts. Spells ts takes.taken takes.values) (sym (turns_anew scan lines (length before.values) before.count)) takes.spelled);
+        (subst (λ ts. Spells ts takes.taken takes.values) (sym (turns_anew scan lines (length before.values) before.count)) takes.spelled);
     count = length-append before.values takes.values ∙ ap₂ (λ m n. m + n) before.count taken_count ∙ omega arith;
     each = λ k h. elim (cases_lt k (length above)) [
       | inl less ↦ former k less
       | inr far ↦
-        let at : length above + (k - length above) ≡ k = omega arith in
-        subst (λ (n : ℕ). get_or new n 0 ≡ modulo (prediction scan new n +ℤ get_or values n (pos 0))) at (later (k - length above) (omega arith))
+          let at : length above + (k - length above) ≡ k = omega arith in
+          subst (λ (n : ℕ). get_or new n 0 ≡ modulo (prediction scan new n +ℤ get_or values n (pos 0))) at (later (k - length above) (omega arith))
     ];
   }
 

@@ -1,14 +1,13 @@
 -- No code word of a scan's tables is a prefix of another one of its table.
-use Rattle.std.proofs.Common.{◌≡◌, ◌≢◌, ℕ, zero, suc, ◌+◌, ◌*◌, ◌/◌, ◌%◌, ◌<◌, ◌≤◌, ◌^◌, ◌||◌, ◌==◌, nat_eq, not, slice_index, ◌⊎◌, inl, inr, Bool, true, false, cond, eqb, ltb, List, [], ◌∷◌, length, map, take, drop, sum, get_or, set, slice_set, Option, Some, None, is_some, unwrap_or, IfSome, find, nat_lt, option_map, Result, Ok, Err, refl, sym, ap, ◌∙◌, subst, arith, length-take, length-drop}
+use Rattle.std.proofs.Common.{◌≡◌, ℕ, zero, suc, ◌+◌, ◌*◌, ◌/◌, ◌%◌, ◌≤◌, ◌^◌, ◌||◌, ◌==◌, nat_eq, not, slice_index, ◌⊎◌, inl, inr, Bool, true, false, cond, eqb, ltb, List, [], ◌∷◌, length, map, take, drop, sum, get_or, set, slice_set, Option, Some, None, is_some, unwrap_or, IfSome, find, nat_lt, option_map, Result, Ok, Err, refl, sym, ap, ◌∙◌, subst, arith, length-take, length-drop}
 use Rattle.std.specs.List.{starts_with}
 use Rattle.std.proofs.lemmas.Bool.{cases_eq, cases_lt, ltb-false}
 use Rattle.std.proofs.lemmas.List.{get_or-map, get_or-set_other, get_or-set_same, get_or_past, length-map, set_past}
 use Rattle.ljpeg_huffman.specs.Words.{Table, IsPrefixFree, code_words, space_from, table_fault}
-use Rattle.ljpeg_huffman.specs.declared.table.TableFault.{TableFault}
 use Rattle.ljpeg_huffman.specs.declared.table.TableFault.TheVariants.{Category, Empty, Overfull, TooMany}
 use Rattle.ljpeg_huffman.proofs.TableLemmas.{prefix_free_table}
 use Rattle.ljpeg_predict.specs.Chain.{◌>>=◌}
-use Rattle.ljpeg_predict.specs.Headers.{Numbered, Told, chosen_tables, frame_of, headers_from, has_other_component, headers_in, headers_of, interval_of, lacks_table, nothing_told, predictor_of, scan_of, segment_then, sized, table_in, table_numbers, tables_from, tables_of, told_table, told_then}
+use Rattle.ljpeg_predict.specs.Headers.{Numbered, Told, chosen_tables, frame_of, headers_from, has_other_component, headers_in, headers_of, interval_of, lacks_table, nothing_told, predictor_of, scan_of, segment_then, table_in, table_numbers, tables_from, tables_of, told_table, told_then}
 use Rattle.ljpeg_predict.specs.Scans.{Scan, table_at}
 use Rattle.ljpeg_predict.specs.Segments.{body_at, kind_of, marker_at}
 use Rattle.ljpeg_predict.specs.declared.JpegFault.{JpegFault}
@@ -119,8 +118,8 @@ chosen_free tables numbers free place =
     elim (cases_lt place (length numbers)) [
       | inl within ↦ subst IsPrefixFree (sym (get_or-map (λ n. unwrap_or (told_table tables n) []) numbers place 0 [] within)) (told_free (told_table tables (get_or numbers place 0)) (free (get_or numbers place 0)))
       | inr past ↦
-        let long : length (map (λ n. unwrap_or (told_table tables n) []) numbers) ≤ place = simp length-map past in
-        subst IsPrefixFree (sym (get_or_past (map (λ n. unwrap_or (told_table tables n) []) numbers) place [] long)) none_free
+          let long : length (map (λ n. unwrap_or (told_table tables n) []) numbers) ≤ place = simp length-map past in
+          subst IsPrefixFree (sym (get_or_past (map (λ n. unwrap_or (told_table tables n) []) numbers) place [] long)) none_free
     ]
 
 abbrev IsFree : Scan → Type 0

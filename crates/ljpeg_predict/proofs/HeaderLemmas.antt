@@ -1,8 +1,7 @@
 -- Tables and segments one after the other.
 use Rattle.std.proofs.Common.{◌≡◌, ℕ, zero, suc, ◌<◌, ◌≤◌, true, false, cond, eqb, List, [], ◌∷◌, length, Option, Some, None, Result, Ok, Err, slice_set, refl, sym, ap, ◌∙◌, arith}
 use Rattle.ljpeg_huffman.specs.Words.{Table}
-use Rattle.ljpeg_predict.specs.Chain.{◌>>=◌}
-use Rattle.ljpeg_predict.specs.Headers.{Numbered, Told, headers_from, headers_in, nothing_told, segment_then, table_in, tables_from, tables_of, told_then}
+use Rattle.ljpeg_predict.specs.Headers.{Numbered, Told, headers_from, headers_in, segment_then, table_in, tables_from, tables_of, told_then}
 use Rattle.ljpeg_predict.specs.Scans.{Scan}
 use Rattle.ljpeg_predict.specs.Segments.{body_at, kind_of, marker_at}
 use Rattle.ljpeg_predict.specs.declared.JpegFault.{JpegFault}

@@ -7,3 +7,5 @@ pub mod DecodeLemmas
 pub mod LongestLemmas
 pub mod FreeLemmas
 pub mod AnswerLemmas
+pub mod OneAnswerLemmas
+pub mod RebuiltLemmas

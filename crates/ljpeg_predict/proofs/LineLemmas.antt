@@ -1,6 +1,6 @@
 -- Numbers of a line that are replaced from the left on.
-use Rattle.std.proofs.Common.{◌≡◌, ◌≢◌, ℕ, suc, ◌+◌, ◌-◌, ◌%◌, ◌^◌, ◌<◌, ◌≤◌, ◌⊎◌, inl, inr, Bool, true, false, cond, ltb, ℤ, pos, ◌+ℤ◌, ap₂, List, length, get_or, set, refl, sym, ap, ◌∙◌, subst, arith, get_or-set_other, get_or-set_same}
-use Rattle.std.proofs.lemmas.Bool.{cases_lt, cond-true, cond-false, lt-ltb, le-ltb, ltb-false}
+use Rattle.std.proofs.Common.{◌≡◌, ◌≢◌, ℕ, ◌+◌, ◌-◌, ◌%◌, ◌^◌, ◌<◌, ◌≤◌, inl, inr, Bool, true, false, cond, ltb, pos, ◌+ℤ◌, ap₂, List, length, get_or, set, refl, sym, ap, ◌∙◌, subst, arith, get_or-set_other, get_or-set_same}
+use Rattle.std.proofs.lemmas.Bool.{cases_lt, cond-true, cond-false, lt-ltb, le-ltb}
 use Rattle.ljpeg_huffman.specs.Differences.{modulo}
 use Rattle.ljpeg_predict.specs.Lines.{IsFirstLine, IsNextLine}
 use Rattle.ljpeg_predict.specs.Prediction.{predicted}
@@ -25,13 +25,13 @@ pub more_so_far : (R : List ℕ → ℕ → ℕ → Type 0) (from : ℕ) (number
 more_so_far R from numbers line place p v low h stable r is s = record {
   done = λ k a b. elim (cases_lt k place) [
     | inl less ↦
-      let apart : k ≢ place = omega arith in
-      let t = s.done k a less in
-      (t.0, stable k t.0 a (omega arith) t.1, get_or-set_other line place k v 0 apart ∙ t.2)
+        let apart : k ≢ place = omega arith in
+        let t = s.done k a less in
+        (t.0, stable k t.0 a (omega arith) t.1, get_or-set_other line place k v 0 apart ∙ t.2)
     | inr more ↦
-      let same : k ≡ place = omega arith in
-      subst (λ (n : ℕ). (q : ℕ) × R (set line place v) n q × (get_or (set line place v) n 0 ≡ (q + get_or numbers n 0) % 2 ^ 16)) (sym same)
-      (p, stable place p low (omega arith) r, get_or-set_same line place v 0 h ∙ is ∙ ap (λ n. (p + n) % 2 ^ 16) (s.left place (omega arith)))
+        let same : k ≡ place = omega arith in
+        subst (λ (n : ℕ). (q : ℕ) × R (set line place v) n q × (get_or (set line place v) n 0 ≡ (q + get_or numbers n 0) % 2 ^ 16)) (sym same)
+        (p, stable place p low (omega arith) r, get_or-set_same line place v 0 h ∙ is ∙ ap (λ n. (p + n) % 2 ^ 16) (s.left place (omega arith)))
   ];
   before = λ k a. let apart : k ≢ place = omega arith in get_or-set_other line place k v 0 apart ∙ s.before k a;
   left = λ k a. let apart : k ≢ place = omega arith in get_or-set_other line place k v 0 apart ∙ s.left k (omega arith);
@@ -55,8 +55,8 @@ stable_first start step place v line some k q low h e =
     elim (cases_lt k step) [
       | inl less ↦ e ∙ cond-true _ _ _ (lt-ltb k step less) ∙ sym (cond-true _ _ _ (lt-ltb k step less))
       | inr more ↦
-        let far : k - step < place = omega arith in
-        e ∙ cond-false _ _ _ (le-ltb k step more) ∙ sym (stable (k - step) place v line far) ∙ sym (cond-false _ _ _ (le-ltb k step more))
+          let far : k - step < place = omega arith in
+          e ∙ cond-false _ _ _ (le-ltb k step more) ∙ sym (stable (k - step) place v line far) ∙ sym (cond-false _ _ _ (le-ltb k step more))
     ]
 
 -- a sample and what stood at its place
@@ -71,7 +71,7 @@ next_line_is predictor step size above numbers middle line long first others kep
     elim (cases_lt place step) [
       | inl less ↦ kept place less ∙ first place less ∙ ap (λ y. modulo (y +ℤ pos (get_or numbers place 0))) (sym (cond-true _ _ _ (lt-ltb place step less)))
       | inr more ↦
-        let t = inner place more (omega arith) in
-        t.2 ∙ ap₂ (λ p n. (p + n) % 2 ^ 16) t.1 (others place more) ∙ modulo-add z (get_or numbers place 0)
-        ∙ ap (λ y. modulo (y +ℤ pos (get_or numbers place 0))) (sym (cond-false _ _ _ (le-ltb place step more)))
+          let t = inner place more (omega arith) in
+          t.2 ∙ ap₂ (λ p n. (p + n) % 2 ^ 16) t.1 (others place more) ∙ modulo-add z (get_or numbers place 0)
+          ∙ ap (λ y. modulo (y +ℤ pos (get_or numbers place 0))) (sym (cond-false _ _ _ (le-ltb place step more)))
     ]

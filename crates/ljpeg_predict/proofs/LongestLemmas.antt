@@ -1,5 +1,5 @@
 -- Lists of differences that fronts of the same bits spell.
-use Rattle.std.proofs.Common.{◌≡◌, ℕ, zero, suc, ◌+◌, ◌≤◌, Bool, ℤ, List, [], ◌∷◌, ◌++◌, length, refl, sym, ap, ◌∙◌, subst, arith, append_assoc, suc-add, zero-add}
+use Rattle.std.proofs.Common.{◌≡◌, ℕ, suc, ◌+◌, ◌≤◌, Bool, ℤ, List, [], ◌∷◌, ◌++◌, length, sym, ap, ◌∙◌, subst, arith, append_assoc, suc-add, zero-add}
 use Rattle.ljpeg_huffman.specs.Words.{Table, IsPrefixFree}
 use Rattle.ljpeg_huffman.specs.Differences.{IsRefused, Spells, SpellsOne}
 use Rattle.ljpeg_huffman.specs.declared.bits.BitFault.{BitFault}

@@ -1,8 +1,9 @@
 -- A stream has exactly one answer.
-use Rattle.std.proofs.Common.{◌≡◌, ◌≢◌, ℕ, zero, suc, ◌+◌, ◌*◌, ◌<◌, ◌≤◌, ◌⊎◌, inl, inr, Bool, true, false, cond, eqb, ℤ, List, ◌++◌, length, Result, Ok, Err, IsOk, refl, sym, ap, ◌∙◌, subst, arith}
+use Rattle.std.proofs.Common.{◌≡◌, ℕ, ◌<◌, Bool, true, false, cond, eqb, List, ◌++◌, length, Result, Ok, Err, IsOk, refl, sym, ap, ◌∙◌, subst, arith}
 use Rattle.std.proofs.lemmas.Bool.{eqb-true}
+use Rattle.std.proofs.lemmas.List.{append_cancel_left}
 use Rattle.ljpeg_huffman.specs.Words.{IsPrefixFree}
-use Rattle.ljpeg_huffman.specs.Differences.{IsRefused, data_bits}
+use Rattle.ljpeg_huffman.specs.Differences.{IsRefused}
 use Rattle.ljpeg_huffman.specs.declared.bits.BitFault.{BitFault}
 use Rattle.ljpeg_huffman.specs.declared.bits.BitFault.TheVariants as bit
 use Rattle.ljpeg_huffman.proofs.DecodeLemmas.{ended_or_no_code}
@@ -10,12 +11,12 @@ use Rattle.ljpeg_huffman.proofs.SpellLemmas.{one_list}
 use Rattle.ljpeg_predict.specs.Chain.{◌>>=◌}
 use Rattle.ljpeg_predict.specs.Headers.{headers_of, sized}
 use Rattle.ljpeg_predict.specs.Prediction.{IsRebuilt}
-use Rattle.ljpeg_predict.specs.Scans.{Scan, components, row_length, sample_count, table_at}
-use Rattle.ljpeg_predict.specs.Streams.{Answers, Begins, IsAnswer, IsCutShort, IsDecoded}
+use Rattle.ljpeg_predict.specs.Scans.{Scan, row_length, sample_count, table_at}
+use Rattle.ljpeg_predict.specs.Streams.{Answers, IsAnswer, IsCutShort, IsDecoded}
 use Rattle.ljpeg_predict.specs.declared.JpegFault.{JpegFault}
 use Rattle.ljpeg_predict.specs.declared.JpegFault.TheVariants as fault
 use Rattle.ljpeg_predict.proofs.DecodeLemmas.{some_width}
-use Rattle.ljpeg_predict.proofs.FreeLemmas.{bind_ok, chosen, ok_is, stream_free}
+use Rattle.ljpeg_predict.proofs.FreeLemmas.{bind_ok, ok_is, stream_free}
 use Rattle.ljpeg_predict.proofs.RebuiltLemmas.{one_list_of_samples}
 
 -- the answers over a scan, by their three cases
@@ -59,7 +60,7 @@ module _ (scan : Scan) (free : (place : ℕ) → IsPrefixFree (table_at scan pla
       ended_or_no_code (table_at scan (length x.differences)) x.rest x.refused
       (subst (λ r. IsRefused (table_at scan (length x.differences)) r bit.NoCode) (sym rest) (subst (λ n. IsRefused (table_at scan n) y.rest bit.NoCode) (sym size) y.refused))
 
-  pub one_outcome : (r s : Result (Unit {0}) JpegFault) (xs ys : List ℕ) → Outcome scan want r xs → Outcome scan want s ys → (r ≡ s) × (IsOk r → xs ≡ ys)
+  one_outcome : (r s : Result (Unit {0}) JpegFault) (xs ys : List ℕ) → Outcome scan want r xs → Outcome scan want s ys → (r ≡ s) × (IsOk r → xs ≡ ys)
   one_outcome r s xs ys (decoded e x) (decoded f y) = (e ∙ sym f, λ ok. same_samples xs ys x y)
   one_outcome r s xs ys (decoded e x) (ended f y) = absurd (not_both xs bit.Ended x y)
   one_outcome r s xs ys (decoded e x) (no_code f y) = absurd (not_both xs bit.NoCode x y)

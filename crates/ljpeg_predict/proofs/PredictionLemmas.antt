@@ -1,5 +1,5 @@
 -- The predictions of a line's samples, within the list of all samples.
-use Rattle.std.proofs.Common.{◌≡◌, ◌≢◌, ℕ, zero, suc, ◌+◌, ◌-◌, ◌*◌, ◌%◌, ◌^◌, ◌<◌, ◌≤◌, inl, inr, cond, ltb, ℤ, pos, ◌+ℤ◌, List, [], ◌∷◌, ◌++◌, length, get_or, refl, sym, ap, ap₂, ◌∙◌, subst, arith, zero-add}
+use Rattle.std.proofs.Common.{◌≡◌, ◌≢◌, ℕ, zero, suc, ◌+◌, ◌-◌, ◌*◌, ◌%◌, ◌^◌, ◌<◌, ◌≤◌, inl, inr, cond, ltb, pos, ◌+ℤ◌, List, [], ◌∷◌, ◌++◌, length, get_or, sym, ap, ap₂, ◌∙◌, subst, arith, zero-add}
 use Rattle.std.proofs.lemmas.Bool.{cases_lt, cond-true, cond-false, lt-ltb, le-ltb}
 use Rattle.std.proofs.lemmas.List.{get_or_append_left, get_or-append-add}
 use Rattle.std.proofs.lemmas.Nat.{mod-mul-add}
@@ -82,10 +82,10 @@ module _ (scan : Scan) (above slice line : List ℕ) (lines : ℕ) (some : 0 < c
       elim (cases_lt j step) [
         | inl less ↦ prediction_above scan all here (omega (arith, long)) (omega (arith, long)) (omega (arith, column)) ∙ ap pos above_is ∙ sym (cond-true _ _ _ (lt-ltb j step less))
         | inr more ↦
-          prediction_inner scan all here (omega (arith, long)) (omega (arith, long)) (omega (arith, column))
-          ∙ ap (λ k. predicted scan.predictor k (get_or all (here - row) 0) (get_or all (here - row - step) 0)) (left_is more)
-          ∙ ap₂ (λ x y. predicted scan.predictor (get_or line (j - step) 0) x y) above_is (corner_is more)
-          ∙ sym (cond-false _ _ _ (le-ltb j step more))
+            prediction_inner scan all here (omega (arith, long)) (omega (arith, long)) (omega (arith, column))
+            ∙ ap (λ k. predicted scan.predictor k (get_or all (here - row) 0) (get_or all (here - row - step) 0)) (left_is more)
+            ∙ ap₂ (λ x y. predicted scan.predictor (get_or line (j - step) 0) x y) above_is (corner_is more)
+            ∙ sym (cond-false _ _ _ (le-ltb j step more))
       ]
 
 pub next_line_of : (scan : Scan) (predictor : Predictor) (step lines : ℕ) (above slice numbers line : List ℕ) → predictor ≡ scan.predictor → step ≡ components scan → 0 < step → step ≤ row_length scan → length above ≡ lines * row_length scan → length above ≢ 0 → length line ≡ row_length scan
@@ -109,19 +109,19 @@ prediction_agrees scan xs ys place some row same =
     elim (cases_lt place (components scan)) [
       | inl start ↦ prediction_start scan xs place start ∙ sym (prediction_start scan ys place start)
       | inr more ↦
-        let left : get_or xs (place - components scan) 0 ≡ get_or ys (place - components scan) 0 = same (place - components scan) (omega arith) in
-        elim (cases_lt place (row_length scan)) [
-          | inl first ↦ prediction_left scan xs place more first ∙ ap pos left ∙ sym (prediction_left scan ys place more first)
-          | inr later ↦
-            let above : get_or xs (place - row_length scan) 0 ≡ get_or ys (place - row_length scan) 0 = same (place - row_length scan) (omega arith) in
-            elim (cases_lt (place % row_length scan) (components scan)) [
-              | inl edge ↦ prediction_above scan xs place more later edge ∙ ap pos above ∙ sym (prediction_above scan ys place more later edge)
-              | inr inner ↦
-                let corner : get_or xs (place - row_length scan - components scan) 0 ≡ get_or ys (place - row_length scan - components scan) 0 = same (place - row_length scan - components scan) (omega arith) in
-                prediction_inner scan xs place more later inner
-                ∙ ap (λ k. predicted scan.predictor k (get_or xs (place - row_length scan) 0) (get_or xs (place - row_length scan - components scan) 0)) left
-                ∙ ap₂ (λ x y. predicted scan.predictor (get_or ys (place - components scan) 0) x y) above corner
-                ∙ sym (prediction_inner scan ys place more later inner)
-            ]
-        ]
+          let left : get_or xs (place - components scan) 0 ≡ get_or ys (place - components scan) 0 = same (place - components scan) (omega arith) in
+          elim (cases_lt place (row_length scan)) [
+            | inl first ↦ prediction_left scan xs place more first ∙ ap pos left ∙ sym (prediction_left scan ys place more first)
+            | inr later ↦
+                let above : get_or xs (place - row_length scan) 0 ≡ get_or ys (place - row_length scan) 0 = same (place - row_length scan) (omega arith) in
+                elim (cases_lt (place % row_length scan) (components scan)) [
+                  | inl edge ↦ prediction_above scan xs place more later edge ∙ ap pos above ∙ sym (prediction_above scan ys place more later edge)
+                  | inr inner ↦
+                      let corner : get_or xs (place - row_length scan - components scan) 0 ≡ get_or ys (place - row_length scan - components scan) 0 = same (place - row_length scan - components scan) (omega arith) in
+                      prediction_inner scan xs place more later inner
+                      ∙ ap (λ k. predicted scan.predictor k (get_or xs (place - row_length scan) 0) (get_or xs (place - row_length scan - components scan) 0)) left
+                      ∙ ap₂ (λ x y. predicted scan.predictor (get_or ys (place - components scan) 0) x y) above corner
+                      ∙ sym (prediction_inner scan ys place more later inner)
+                ]
+          ]
     ]

@@ -1,6 +1,6 @@
 -- There is exactly one list of samples to a list of differences.
-use Rattle.std.proofs.Common.{◌≡◌, ◌≢◌, ℕ, zero, suc, ◌+◌, ◌-◌, ◌*◌, ◌%◌, ◌<◌, ◌≤◌, inl, inr, ℤ, pos, ◌+ℤ◌, List, [], ◌∷◌, ◌++◌, length, get_or, refl, sym, ap, ap₂, ◌∙◌, subst, arith, append_assoc, append-nil, length-append}
-use Rattle.std.proofs.lemmas.Bool.{cases_eq, cases_lt}
+use Rattle.std.proofs.Common.{◌≡◌, ℕ, zero, suc, ◌+◌, ◌*◌, ◌<◌, ◌≤◌, inl, inr, ℤ, pos, ◌+ℤ◌, List, [], ◌∷◌, ◌++◌, length, get_or, refl, sym, ap, ap₂, ◌∙◌, subst, arith, append_assoc, append-nil, length-append}
+use Rattle.std.proofs.lemmas.Bool.{cases_lt}
 use Rattle.std.proofs.lemmas.List.{ext_get_or, get_or-append-add, get_or_append_left, get_or_past}
 use Rattle.ljpeg_huffman.specs.Differences.{modulo}
 use Rattle.ljpeg_predict.specs.Prediction.{IsRebuilt, prediction}
@@ -24,11 +24,11 @@ module _ (scan : Scan) (width : 0 < row_length scan) where
       elim (cases_lt k n) [
         | inl less ↦ before k less
         | inr more ↦
-          let below : (j : ℕ) → j < k → get_or xs j 0 ≡ get_or ys j 0 = λ j g. before j (omega arith) in
-          elim (cases_lt k (length xs)) [
-            | inl within ↦ rx.each k within ∙ ap (λ p. modulo (p +ℤ get_or differences k (pos 0))) (prediction_agrees scan xs ys k some width below) ∙ sym (ry.each k (omega (arith, rx.lengths, ry.lengths)))
-            | inr past ↦ get_or_past xs k 0 past ∙ sym (get_or_past ys k 0 (omega (arith, rx.lengths, ry.lengths)))
-          ]
+            let below : (j : ℕ) → j < k → get_or xs j 0 ≡ get_or ys j 0 = λ j g. before j (omega arith) in
+            elim (cases_lt k (length xs)) [
+              | inl within ↦ rx.each k within ∙ ap (λ p. modulo (p +ℤ get_or differences k (pos 0))) (prediction_agrees scan xs ys k some width below) ∙ sym (ry.each k (omega (arith, rx.lengths, ry.lengths)))
+              | inr past ↦ get_or_past xs k 0 past ∙ sym (get_or_past ys k 0 (omega (arith, rx.lengths, ry.lengths)))
+            ]
       ]
 
   pub one_list_of_samples : (differences : List ℤ) (xs ys : List ℕ) → IsRebuilt scan differences xs → IsRebuilt scan differences ys → xs ≡ ys
@@ -47,15 +47,15 @@ module _ (scan : Scan) (width : 0 < row_length scan) where
         lengths = size ∙ ap (λ n. n + 1) r.lengths ∙ sym (length-append done (difference ∷ []));
         each = λ k h. elim (cases_lt k (length samples)) [
           | inl less ↦
-            let value : get_or (done ++ difference ∷ []) k (pos 0) ≡ get_or done k (pos 0) = get_or_append_left done (difference ∷ []) (pos 0) k (omega (arith, r.lengths)) in
-            get_or_append_left samples (next samples difference ∷ []) 0 k less ∙ r.each k less ∙ ap₂ (λ p v. modulo (p +ℤ v)) (sym (same k (omega arith))) (sym value)
+              let value : get_or (done ++ difference ∷ []) k (pos 0) ≡ get_or done k (pos 0) = get_or_append_left done (difference ∷ []) (pos 0) k (omega (arith, r.lengths)) in
+              get_or_append_left samples (next samples difference ∷ []) 0 k less ∙ r.each k less ∙ ap₂ (λ p v. modulo (p +ℤ v)) (sym (same k (omega arith))) (sym value)
           | inr far ↦
-            let last : k ≡ length samples = omega (arith, size) in
-            let end : length samples + 0 ≡ length samples = omega arith in
-            let here : get_or all (length samples) 0 ≡ next samples difference = sym (ap (λ n. get_or all n 0) end) ∙ get_or-append-add samples (next samples difference ∷ []) 0 0 in
-            let value : get_or (done ++ difference ∷ []) (length samples) (pos 0) ≡ difference = sym (ap (λ n. get_or (done ++ difference ∷ []) n (pos 0)) end) ∙ ap (λ n. get_or (done ++ difference ∷ []) (n + 0) (pos 0)) r.lengths ∙ get_or-append-add done (difference ∷ []) 0 (pos 0) in
-            subst (λ (n : ℕ). get_or all n 0 ≡ modulo (prediction scan all n +ℤ get_or (done ++ difference ∷ []) n (pos 0))) (sym last)
-            (here ∙ ap₂ (λ p v. modulo (p +ℤ v)) (sym (same (length samples) (omega arith))) (sym value))
+              let last : k ≡ length samples = omega (arith, size) in
+              let end : length samples + 0 ≡ length samples = omega arith in
+              let here : get_or all (length samples) 0 ≡ next samples difference = sym (ap (λ n. get_or all n 0) end) ∙ get_or-append-add samples (next samples difference ∷ []) 0 0 in
+              let value : get_or (done ++ difference ∷ []) (length samples) (pos 0) ≡ difference = sym (ap (λ n. get_or (done ++ difference ∷ []) n (pos 0)) end) ∙ ap (λ n. get_or (done ++ difference ∷ []) (n + 0) (pos 0)) r.lengths ∙ get_or-append-add done (difference ∷ []) 0 (pos 0) in
+              subst (λ (n : ℕ). get_or all n 0 ≡ modulo (prediction scan all n +ℤ get_or (done ++ difference ∷ []) n (pos 0))) (sym last)
+              (here ∙ ap₂ (λ p v. modulo (p +ℤ v)) (sym (same (length samples) (omega arith))) (sym value))
         ];
       }
 

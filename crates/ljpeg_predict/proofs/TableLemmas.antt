@@ -1,5 +1,5 @@
 -- The tables of a scan's components.
-use Rattle.std.proofs.Common.{◌≡◌, ℕ, zero, suc, ◌<◌, ◌≤◌, Bool, true, false, List, [], ◌∷◌, length, map, take, get_or, Option, Some, None, ◌||◌, is_none, unwrap_or, option_copied, IsSome, refl, sym, ap, ap₂, ◌∙◌, subst, arith, Bor}
+use Rattle.std.proofs.Common.{◌≡◌, ℕ, zero, suc, ◌≤◌, Bool, true, false, List, [], ◌∷◌, length, map, take, get_or, Option, Some, None, ◌||◌, is_none, unwrap_or, option_copied, IsSome, refl, sym, ap, ap₂, ◌∙◌, arith, Bor}
 use Rattle.std.specs.List.{list_any}
 use Rattle.std.proofs.lemmas.List.{length-map, length-take, take-map}
 use Rattle.ljpeg_huffman.specs.Words.{Table}

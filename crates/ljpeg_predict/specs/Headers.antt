@@ -1,6 +1,6 @@
 -- The headers up to a scan's data (ITU-T T.81, B.2), as lossless JPEG has them (B.2.4 and annex H).
 use Rattle.std.specs.Prelude.{ℕ, zero, suc, ◌+◌, ◌*◌, ◌/◌, ◌%◌, ◌==◌, ◌≤◌, nat_eq, nat_lt, Bool, not, ◌||◌, if◌then◌else◌, List, [], ◌∷◌, length, map, sum, take, drop, slice_index, slice_index_or, slice_set, Option, None, Some, is_some, is_none, unwrap_or, Result, Ok, Err}
-use Rattle.std.specs.List.{list_all, list_any, range_with_len, starts_with}
+use Rattle.std.specs.List.{list_any, range_with_len, starts_with}
 use Rattle.ljpeg_huffman.specs.Words.{Table, code_words, table_fault}
 use Rattle.ljpeg_predict.specs.Chain.{◌>>=◌}
 use Rattle.ljpeg_predict.specs.Scans.{Scan, sample_count}
@@ -75,8 +75,8 @@ tables_from zero tables body = Err fault.HeaderLength
 tables_from (suc more) tables body = do
   told ← table_in body
   if length told.rest == 0
-    then Ok (slice_set tables told.number (Some told.table))
-    else tables_from more (slice_set tables told.number (Some told.table)) told.rest
+      then Ok (slice_set tables told.number (Some told.table))
+      else tables_from more (slice_set tables told.number (Some told.table)) told.rest
 
 abbrev pub tables_of : List (Option Table) → List ℕ → Result (List (Option Table)) JpegFault
 tables_of tables body = tables_from (length body) tables body
@@ -131,15 +131,15 @@ scan_of frame tables body bytes =
     else (if not (count == frame.components) || has_other_component body frame.ids count then Err fault.Components
     else (if lacks_table tables numbers then Err fault.NoTable
     else predictor_of (slice_index body (1 + 2 * count)) >>= λ predictor.
-      (if not (slice_index body (3 + 2 * count) % 16 == 0) then Err fault.PointTransform
-      else Ok (record {
-        precision = frame.precision;
-        lines = frame.lines;
-        columns = frame.columns;
-        tables = chosen_tables tables numbers;
-        predictor = predictor;
-        bytes = bytes;
-      }))))
+    (if not (slice_index body (3 + 2 * count) % 16 == 0) then Err fault.PointTransform
+    else Ok (record {
+      precision = frame.precision;
+      lines = frame.lines;
+      columns = frame.columns;
+      tables = chosen_tables tables numbers;
+      predictor = predictor;
+      bytes = bytes;
+    }))))
 
 -- what the segments before a scan have told: the frame header, and the tables by their number
 pub record Told : Type 0 where

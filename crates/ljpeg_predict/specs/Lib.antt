@@ -1,4 +1,5 @@
 pub mod Chain
+pub mod Faults
 pub mod Headers
 pub mod Lines
 pub mod Prediction

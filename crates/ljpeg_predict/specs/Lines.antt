@@ -19,7 +19,7 @@ IsFirstLine start step numbers line =
 abbrev pub IsNextLine : Predictor → ℕ → List ℕ → List ℕ → List ℕ → Type 0
 IsNextLine predictor step above numbers line =
     IsPredicted (λ place. if nat_lt place step then pos (slice_index above place)
-      else predicted predictor (slice_index line (place - step)) (slice_index above place) (slice_index above (place - step))) numbers line
+    else predicted predictor (slice_index line (place - step)) (slice_index above place) (slice_index above (place - step))) numbers line
 
 -- a line of a scan below the lines of `above`
 abbrev pub IsLine : Scan → List ℕ → List ℕ → List ℕ → Type 0

@@ -1,5 +1,5 @@
 -- Samples from their differences (ITU-T T.81, H.1.2.1).
-use Rattle.std.specs.Prelude.{◌≡◌, ℕ, ◌+◌, ◌-◌, ◌*◌, ◌%◌, ◌^◌, nat_lt, if◌then◌else◌, ℤ, pos, ◌+ℤ◌, ◌-ℤ◌, List, length, slice_index, slice_index_or, EachIndex}
+use Rattle.std.specs.Prelude.{◌≡◌, ℕ, ◌-◌, ◌%◌, ◌^◌, nat_lt, if◌then◌else◌, ℤ, pos, ◌+ℤ◌, ◌-ℤ◌, List, length, slice_index, slice_index_or, EachIndex}
 use Rattle.std.specs.Int.{int_div_euclid}
 use Rattle.ljpeg_huffman.specs.Differences.{modulo}
 use Rattle.ljpeg_predict.specs.Scans.{Scan, components, row_length}
@@ -39,4 +39,4 @@ prediction scan samples place =
 pub record IsRebuilt (scan : Scan) (differences : List ℤ) (samples : List ℕ) : Type 0 where
   pub lengths : length samples ≡ length differences
   pub each : EachIndex samples (λ place. slice_index samples place
-    ≡ modulo (prediction scan samples place +ℤ slice_index_or differences place (pos 0)))
+      ≡ modulo (prediction scan samples place +ℤ slice_index_or differences place (pos 0)))

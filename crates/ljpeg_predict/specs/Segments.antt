@@ -1,7 +1,6 @@
 -- Markers and the segments behind them (ITU-T T.81, B.1.1.2 to B.1.1.4).
 use Rattle.std.specs.Prelude.{ℕ, ◌+◌, ◌-◌, ◌*◌, ◌==◌, nat_le, nat_lt, Bool, ◌&&◌, ◌||◌, if◌then◌else◌, List, [], ◌∷◌, length, take, drop, slice_index, Option, None, Some, Result, Ok, Err}
 use Rattle.std.specs.List.{list_any}
-use Rattle.ljpeg_predict.specs.Chain.{◌>>=◌}
 use Rattle.ljpeg_predict.specs.declared.JpegFault.{JpegFault}
 use Rattle.ljpeg_predict.specs.declared.JpegFault.TheVariants as fault
 use Rattle.ljpeg_predict.specs.declared.headers.FrameHeader.{FrameHeader}

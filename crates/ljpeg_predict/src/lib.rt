@@ -1,8 +1,12 @@
 //! Lossless JPEG streams (ITU-T T.81, Annex H): their samples.
 #![tactic(auto)]
 
-ghost use Rattle.std.specs.Prelude.{◌≡◌, ◌≤◌, ◌<◌, ◌^◌, length};
+ghost use Rattle.std.specs.Prelude.{ℕ, ℤ, List, Result, ◌≡◌, ◌+◌, ◌≤◌, ◌<◌, ◌^◌, ◌++◌, length, IsOk};
+ghost use Rattle.ljpeg_predict.specs.Faults.{jpeg_fault_name, jpeg_fault_text};
+ghost use Rattle.ljpeg_predict.specs.Prediction.{IsRebuilt};
+ghost use Rattle.ljpeg_predict.specs.Scans.{Scan as AnyScan, row_length};
 ghost use Rattle.ljpeg_predict.specs.Streams.{IsAnswer};
+ghost use Rattle.ljpeg_predict.specs.declared.JpegFault.{JpegFault as AnyFault};
 
 mod headers;
 mod lines;
@@ -15,6 +19,7 @@ mod tests;
 use headers::read_headers;
 use ljpeg_huffman::BitFault;
 use samples::read_samples;
+use text_line::Line;
 
 /// Why a stream gives no samples.
 #[derive(Clone, Copy, Debug, PartialEq, Eq)]
@@ -51,6 +56,46 @@ pub enum JpegFault {
     NoCode,
 }
 
+impl JpegFault {
+    /// Appends the fault's name, and its numbers in decimal, each after a space.
+    pub fn say(&self, line: &mut Line)
+        requires { length line.old ≤ 64 }
+        ensures text { line.new ≡ line.old ++ jpeg_fault_text self.now }
+        ensures within { length line.new ≤ length line.old + 32 }
+    {
+        line.push(self.name());
+        match *self {
+            JpegFault::Marker { byte } => line.push_field(u64::from(byte)),
+            JpegFault::NotLossless { marker } => line.push_field(u64::from(marker)),
+            JpegFault::Size { has } => line.push_field(has),
+            _ => {}
+        }
+    }
+
+    fn name(&self) -> &'static [u8]
+        ensures name { result.now ≡ jpeg_fault_name self.now }
+        ensures short { length result.now ≤ 14 }
+    {
+        match self {
+            JpegFault::NoStart => b"NoStart",
+            JpegFault::Marker { .. } => b"Marker",
+            JpegFault::NotLossless { .. } => b"NotLossless",
+            JpegFault::HeaderLength => b"HeaderLength",
+            JpegFault::Precision => b"Precision",
+            JpegFault::Components => b"Components",
+            JpegFault::Sampling => b"Sampling",
+            JpegFault::Predictor => b"Predictor",
+            JpegFault::PointTransform => b"PointTransform",
+            JpegFault::Restart => b"Restart",
+            JpegFault::Table => b"Table",
+            JpegFault::NoTable => b"NoTable",
+            JpegFault::Size { .. } => b"Size",
+            JpegFault::Ended => b"Ended",
+            JpegFault::NoCode => b"NoCode",
+        }
+    }
+}
+
 /// Writes the samples of a stream, line by line, sample by sample, component by component, where the stream has as many
 /// as `out` is long. What follows the last one isn't looked at. After a refusal `out` holds anything.
 pub fn decode(bytes: &[u8], out: &mut [u16]) -> Result<(), JpegFault>
@@ -69,3 +114,18 @@ pub fn decode(bytes: &[u8], out: &mut [u16]) -> Result<(), JpegFault>
         Err(BitFault::NoCode) => Err(JpegFault::NoCode),
     }
 }
+
+/// Differences are those of exactly one list of samples, for a scan whose lines have some.
+pub fn one_rebuilding()
+    ensures some { (scan : AnyScan) (differences : List ℤ) → 0 < row_length scan
+        → (samples : List ℕ) × IsRebuilt scan differences samples }
+    ensures one { (scan : AnyScan) (differences : List ℤ) (samples others : List ℕ) → 0 < row_length scan
+        → IsRebuilt scan differences samples → IsRebuilt scan differences others → samples ≡ others }
+{}
+
+/// A stream has one answer: the samples of one list, or one refusal.
+pub fn one_answer()
+    ensures { (bytes : List ℕ) (want : ℕ) (result other : Result (Unit {0}) AnyFault) (samples others : List ℕ) → 0 < want
+        → IsAnswer bytes want result samples → IsAnswer bytes want other others
+        → (result ≡ other) × (IsOk result → samples ≡ others) }
+{}

@@ -51,12 +51,13 @@ impl<'a> Model for Scan<'a> {
     ghost Value = { spec.Scan };
 
     ghost view = { λ scan. record {
-        precision = scan.frame.precision;
-        lines = scan.frame.lines;
-        columns = scan.frame.columns;
-        tables = chosen_tables scan.tables (take scan.frame.components scan.numbers);
-        predictor = scan.predictor;
-        bytes = scan.bytes.now } };
+      precision = scan.frame.precision;
+      lines = scan.frame.lines;
+      columns = scan.frame.columns;
+      tables = chosen_tables scan.tables (take scan.frame.components scan.numbers);
+      predictor = scan.predictor;
+      bytes = scan.bytes.now;
+    } };
 
     ghost invariant = { λ scan. IsFrame scan.frame
         × (length scan.numbers ≡ 4)
@@ -149,7 +150,9 @@ fn told_table(tables: &[Option<CodeTable>; 4], number: u8) -> Option<&CodeTable>
 fn lacks_table(tables: &[Option<CodeTable>; 4], numbers: &[u8]) -> bool
     ensures { result ≡ lacks_table tables.now numbers.now }
 {
-    numbers.iter().any(|number| told_table(tables, *number).is_none())
+    numbers
+        .iter()
+        .any(|number| told_table(tables, *number).is_none())
 }
 
 /// A component's table if it was told, else another one.

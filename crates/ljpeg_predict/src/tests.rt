@@ -142,10 +142,7 @@ fn refusals() -> [Case; 11] {
             &[0xff, 0xd8, 0xff, 0xda, 0, 8],
             JpegFault::Marker { byte: 218 },
         ),
-        refused(
-            &[0xff, 0xd8, 0xff, 0xdd, 0, 4, 0, 1],
-            JpegFault::Restart,
-        ),
+        refused(&[0xff, 0xd8, 0xff, 0xdd, 0, 4, 0, 1], JpegFault::Restart),
         refused(&OVERFULL, JpegFault::Table),
         refused(&NO_VALUES, JpegFault::HeaderLength),
     ]

@@ -1,4 +1,4 @@
-use Rattle.std.proofs.Common.{◌≡◌, ◌≢◌, Err, arith, ap, length, refl, sym, ◌∙◌}
+use Rattle.std.proofs.Common.{◌≡◌, ◌≢◌, Err, arith, ap, length, sym}
 use Rattle.ljpeg_predict.specs.Scans.{sample_count}
 use Rattle.ljpeg_predict.specs.declared.JpegFault.TheVariants as fault
 use Rattle.ljpeg_predict.proofs.AnswerLemmas.{answer_at, sized_otherwise, sized_so}

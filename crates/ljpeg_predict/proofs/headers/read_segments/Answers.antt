@@ -68,30 +68,30 @@ returns-in-Scan c =
 pub loop-marker-preserved-in_ok-frame_header-in-Frame : goal.loop-marker-preserved-in_ok-frame_header-in-Frame
 loop-marker-preserved-in_ok-frame_header-in-Frame c = record {
   left = headers_next _ _ _ _ _ c.loop-marker.invariant.left (omega (arith, c.in_ok-marker.ensures.shorter, c.in_ok-body.ensures.shorter))
-    (λ next. whole_segment _ _ _ _ _ _ c.in_ok-marker.ensures.gives (sym c.in_ok-kind.ensures ∙ ap Ok c.in-Frame.is) c.in_ok-body.ensures.gives next
-    (rw (← c.in_ok-frame_header-in-Frame.ensures.gives) refl));
+      (λ next. whole_segment _ _ _ _ _ _ c.in_ok-marker.ensures.gives (sym c.in_ok-kind.ensures ∙ ap Ok c.in-Frame.is) c.in_ok-body.ensures.gives next
+      (rw (← c.in_ok-frame_header-in-Frame.ensures.gives) refl));
   whole = c.in_ok-frame_header-in-Frame.ensures.whole;
 }
 
 pub loop-marker-preserved-in_ok-read_tables-in-Tables : goal.loop-marker-preserved-in_ok-read_tables-in-Tables
 loop-marker-preserved-in_ok-read_tables-in-Tables c = record {
   left = headers_next _ _ _ _ _ c.loop-marker.invariant.left (omega (arith, c.in_ok-marker.ensures.shorter, c.in_ok-body.ensures.shorter))
-    (λ next. whole_segment _ _ _ _ _ _ c.in_ok-marker.ensures.gives (sym c.in_ok-kind.ensures ∙ ap Ok c.in-Tables.is) c.in_ok-body.ensures.gives next
-    (rw c.in_ok-read_tables-in-Tables.ensures refl));
+      (λ next. whole_segment _ _ _ _ _ _ c.in_ok-marker.ensures.gives (sym c.in_ok-kind.ensures ∙ ap Ok c.in-Tables.is) c.in_ok-body.ensures.gives next
+      (rw c.in_ok-read_tables-in-Tables.ensures refl));
   whole = c.loop-marker.invariant.whole;
 }
 
 pub loop-marker-preserved-in_ok-restart_interval-in-RestartInterval : goal.loop-marker-preserved-in_ok-restart_interval-in-RestartInterval
 loop-marker-preserved-in_ok-restart_interval-in-RestartInterval c = record {
   left = headers_next _ _ _ _ _ c.loop-marker.invariant.left (omega (arith, c.in_ok-marker.ensures.shorter, c.in_ok-body.ensures.shorter))
-    (λ next. whole_segment _ _ _ _ _ _ c.in_ok-marker.ensures.gives (sym c.in_ok-kind.ensures ∙ ap Ok c.in-RestartInterval.is) c.in_ok-body.ensures.gives next
-    (rw (← c.in_ok-restart_interval-in-RestartInterval.ensures) refl));
+      (λ next. whole_segment _ _ _ _ _ _ c.in_ok-marker.ensures.gives (sym c.in_ok-kind.ensures ∙ ap Ok c.in-RestartInterval.is) c.in_ok-body.ensures.gives next
+      (rw (← c.in_ok-restart_interval-in-RestartInterval.ensures) refl));
   whole = c.loop-marker.invariant.whole;
 }
 
 pub loop-marker-preserved : goal.loop-marker-preserved
 loop-marker-preserved c = record {
   left = headers_next _ _ _ _ _ c.loop-marker.invariant.left (omega (arith, c.in_ok-marker.ensures.shorter, c.in_ok-body.ensures.shorter))
-    (λ next. whole_segment _ _ _ _ _ _ c.in_ok-marker.ensures.gives (sym c.in_ok-kind.ensures ∙ ap Ok c.in-PassedOver.is) c.in_ok-body.ensures.gives next refl);
+      (λ next. whole_segment _ _ _ _ _ _ c.in_ok-marker.ensures.gives (sym c.in_ok-kind.ensures ∙ ap Ok c.in-PassedOver.is) c.in_ok-body.ensures.gives next refl);
   whole = c.loop-marker.invariant.whole;
 }

@@ -1,4 +1,4 @@
-use Rattle.std.proofs.Common.{arith, refl, subst, ◌∙◌, ap, ◌+◌, ◌%◌, get_or}
+use Rattle.std.proofs.Common.{arith, refl, ◌∙◌, ap, ◌+◌, ◌%◌, get_or}
 use Rattle.ljpeg_predict.proofs.LineLemmas.{more_so_far}
 use Rattle.ljpeg_predict.proofs.lines.first_samples.Goals as goal
 

@@ -1,4 +1,4 @@
-use Rattle.std.proofs.Common.{arith, sym, refl, ap, ◌∙◌, ◌≡◌, ◌≢◌, ◌+◌, ◌-◌, ◌≤◌, ℕ, length, take, drop, get_or, length-drop, subst}
+use Rattle.std.proofs.Common.{arith, sym, refl, ap, ◌∙◌, ◌≡◌, ◌≢◌, ◌+◌, ◌-◌, length, take, drop, get_or, length-drop}
 use Rattle.std.proofs.lemmas.Bool.{eqb-true, eqb-false}
 use Rattle.std.proofs.lemmas.List.{get_or-drop, take_rest}
 use Rattle.ljpeg_predict.specs.Scans.{row_length, components}

@@ -1,8 +1,8 @@
-use Rattle.std.proofs.Common.{arith, sym, refl, ap, ap₂, ◌∙◌, ◌≡◌, ◌*◌, ◌+◌, ◌-◌, ◌≤◌, ◌<◌, ℕ, length, map, take, drop, get_or, subst}
+use Rattle.std.proofs.Common.{arith, sym, ap, ◌∙◌, ◌≡◌, ◌*◌, length, map, take, drop, get_or, subst}
 use Rattle.std.proofs.lemmas.List.{get_or-take, take-map, length-take}
 use Rattle.std.proofs.lemmas.Result.{err_from_is_err_and}
 use Rattle.ljpeg_huffman.specs.Differences.{StopsShort, Takes, by_turns}
-use Rattle.ljpeg_predict.specs.Scans.{row_length, components, table_at}
+use Rattle.ljpeg_predict.specs.Scans.{row_length}
 use Rattle.ljpeg_predict.proofs.DecodeLemmas.{cut_short, more_decoded, room_for_line, some_width}
 use Rattle.ljpeg_predict.proofs.samples.read_samples.Goals as goal
 

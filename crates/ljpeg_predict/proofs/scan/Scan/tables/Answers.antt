@@ -1,4 +1,4 @@
-use Rattle.std.proofs.Common.{List, [], ◌∷◌, take, option_copied, arith, sym, ap, ◌∙◌}
+use Rattle.std.proofs.Common.{[], ◌∷◌, take, option_copied, arith, sym, ap, ◌∙◌}
 use Rattle.ljpeg_predict.specs.Scans.{Scan, components}
 use Rattle.ljpeg_predict.proofs.TableLemmas.{chosen_count, first_told, four_tables, is_told}
 use Rattle.ljpeg_predict.proofs.scan.Scan.tables.Goals as goal
