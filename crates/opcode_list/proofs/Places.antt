@@ -1,6 +1,6 @@
 -- Points, rectangles and entries that stand one after the other: one more of them.
-use Rattle.std.proofs.Common.{◌≡◌, ℕ, ◌+◌, ◌*◌, List, [], ◌∷◌, ◌++◌, arith, refl}
-use Rattle.std.proofs.lemmas.List.FromFn.{map-range_with_len_more}
+use Rattle.std.proofs.Common.{◌≡◌, ℕ, ◌+◌, ◌*◌, List, [], ◌∷◌, ◌++◌, arith, refl, length}
+use Rattle.std.proofs.lemmas.List.FromFn.{length-map-range_with_len, map-range_with_len_more}
 use Rattle.opcode_list.specs.Cuts.{long_at, short_at}
 use Rattle.opcode_list.specs.Params.{points_at, rect_at, rects_at, table_at}
 
@@ -28,3 +28,15 @@ rects_at-none params place = refl
 pub table_at-none : (params : List ℕ) (place : ℕ) → table_at params place 0 ≡ []
 unfolding table_at
 table_at-none params place = refl
+
+pub length-points_at : (params : List ℕ) (place count : ℕ) → length (points_at params place count) ≡ count
+unfolding points_at
+length-points_at params place count = simp length-map-range_with_len
+
+pub length-rects_at : (params : List ℕ) (place count : ℕ) → length (rects_at params place count) ≡ count
+unfolding rects_at
+length-rects_at params place count = simp length-map-range_with_len
+
+pub length-table_at : (params : List ℕ) (place count : ℕ) → length (table_at params place count) ≡ count
+unfolding table_at
+length-table_at params place count = simp length-map-range_with_len

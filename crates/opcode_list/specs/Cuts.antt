@@ -40,6 +40,6 @@ unfoldable pub cut_opcodes : ℕ → List ℕ → List (Option RawOpcode)
 cut_opcodes zero bytes = []
 cut_opcodes (suc count) bytes =
     elim (first_opcode bytes) [
-      None ↦ None ∷ []
-    | Some raw ↦ Some raw ∷ cut_opcodes count (drop (16 + length raw.params) bytes)
+      | None ↦ None ∷ []
+      | Some raw ↦ Some raw ∷ cut_opcodes count (drop (16 + length raw.params) bytes)
     ]

@@ -1,9 +1,9 @@
 -- The parameters of the opcodes that are run (DNG 1.6, "Opcode List Processing"). None where they can't be run.
-use Rattle.std.specs.Prelude.{ℕ, ◌+◌, ◌*◌, ◌==◌, ◌&&◌, nat_lt, nat_le, if◌then◌else◌, List, Option, None, Some, length, map}
+use Rattle.std.specs.Prelude.{ℕ, ◌≤◌, ◌<◌, ◌+◌, ◌*◌, ◌==◌, ◌&&◌, nat_lt, nat_le, if◌then◌else◌, List, Option, None, Some, length, map}
 use Rattle.std.specs.List.{range_with_len}
 use Rattle.plane_view.specs.declared.Rect.{Rect}
 use Rattle.opcode_list.specs.declared.opcode.Opcode.{Opcode}
-use Rattle.opcode_list.specs.declared.opcode.Opcode.TheVariants.{FixConstant, FixList, Map, Trim}
+use Rattle.opcode_list.specs.declared.opcode.Opcode.TheVariants.{FixConstant, FixList, Map, Skipped, Trim}
 use Rattle.opcode_list.specs.Cuts.{long_at, short_at}
 
 -- a rectangle at a place: top, left, bottom, right
@@ -40,9 +40,9 @@ unfoldable pub list_of : List ℕ → Option Opcode
 list_of params =
     if nat_lt (length params) 12 then None
     else (if (length params == 12 + 8 * long_at params 4 + 16 * long_at params 8)
-        && nat_le (long_at params 0) 3
-        && nat_le (long_at params 4) 65536
-        && nat_le (long_at params 8) 1024
+    && nat_le (long_at params 0) 3
+    && nat_le (long_at params 4) 65536
+    && nat_le (long_at params 8) 1024
     then Some (fix_list_of params (long_at params 4) (long_at params 8))
     else None)
 
@@ -50,8 +50,8 @@ list_of params =
 unfoldable pub trim_of : List ℕ → Option Opcode
 trim_of params =
     if (length params == 16)
-        && nat_lt (long_at params 0) (long_at params 8)
-        && nat_lt (long_at params 4) (long_at params 12)
+    && nat_lt (long_at params 0) (long_at params 8)
+    && nat_lt (long_at params 4) (long_at params 12)
     then Some (Trim (rect_at params 0))
     else None
 
@@ -64,12 +64,12 @@ unfoldable pub map_of : List ℕ → Option Opcode
 map_of params =
     if nat_lt (length params) 36 then None
     else (if (length params == 36 + 2 * long_at params 32)
-        && nat_le 1 (long_at params 32)
-        && nat_le (long_at params 32) 65536
-        && nat_le 1 (long_at params 24)
-        && nat_le 1 (long_at params 28)
+    && nat_le 1 (long_at params 32)
+    && nat_le (long_at params 32) 65536
+    && nat_le 1 (long_at params 24)
+    && nat_le 1 (long_at params 28)
     then Some (Map (rect_at params 0) (long_at params 16) (long_at params 20) (long_at params 24) (long_at params 28)
-        (table_at params 36 (long_at params 32)))
+    (table_at params 36 (long_at params 32)))
     else None)
 
 -- the opcode of an ID that can be run: 4 FixBadPixelsConstant, 5 FixBadPixelsList, 6 TrimBounds, 7 MapTable
@@ -79,3 +79,13 @@ opcode_with id params =
     else (if id == 5 then list_of params
     else (if id == 6 then trim_of params
     else map_of params))
+
+-- what holds of each opcode that is read: one that is run has a phase of 0 to 3, a rectangle that isn't empty, pitches of
+-- at least 1, a table of 1 to 65,536 entries, at most 65,536 points and 1,024 rectangles
+abbrev pub CanRun : Opcode → Type 0
+CanRun (FixConstant constant phase) = phase ≤ 3
+CanRun (FixList phase points rects) = (phase ≤ 3) × (length points ≤ 65536) × (length rects ≤ 1024)
+CanRun (Trim rect) = (rect.top < rect.bottom) × (rect.left < rect.right)
+CanRun (Map rect plane planes row_pitch col_pitch table) =
+    (1 ≤ row_pitch) × (1 ≤ col_pitch) × (1 ≤ length table) × (length table ≤ 65536)
+CanRun (Skipped id) = Unit {0}

@@ -1,16 +1,16 @@
 //! An opcode list: its opcodes one after the other, or the first refusal.
 
-ghost use Rattle.std.specs.Prelude.{◌≡◌, ◌+◌, ◌≤◌, IfSome, drop, length};
+ghost use Rattle.std.specs.Prelude.{◌≡◌, ◌+◌, ◌≤◌, All, IfOk, IfSome, drop, length};
 ghost use Rattle.std.specs.Option.{option_map};
 ghost use Rattle.opcode_list.specs.Cuts.{cut_opcodes, first_opcode};
 ghost use Rattle.opcode_list.specs.Lists.{Answers, barred_by, is_optional, opcode_of, opcodes_from, opcodes_of};
+ghost use Rattle.opcode_list.specs.Params.{CanRun};
 ghost use Rattle.opcode_list.specs.Seen.{raw_seen};
-
-use lists::Items;
-use std::alloc::Global;
 
 use crate::opcode::{Opcode, OpcodeFault};
 use crate::params::{FIX_BAD_PIXELS_CONSTANT, FIX_BAD_PIXELS_LIST, MAP_TABLE, long, opcode_with};
+use lists::Items;
+use std::alloc::Global;
 
 /// The most opcodes of a list.
 const MAX_OPCODES: u32 = 16;
@@ -83,13 +83,17 @@ impl RawOpcode<'_> {
     /// The opcode, by its index in the list.
     #[tactic(auto, unfolding(crate::specs::Lists::opcode_of))]
     fn read(&self, alloc: Global, list: u8, index: u32) -> Result<Opcode, OpcodeFault>
-        ensures { Answers result (opcode_of list index (raw_seen self.now)) }
+        ensures answer { Answers result (opcode_of list index (raw_seen self.now)) }
+        ensures can_run { IfOk result CanRun }
     {
         let id = self.id;
         match self.barred_by(list, index) {
             Some(_) if self.is_optional() => Ok(Opcode::Skipped { id }),
             Some(fault) => Err(fault),
-            None => opcode_with(alloc, id, self.params)?.ok_or(OpcodeFault::BadParams { index, id }),
+            None => opcode_with(alloc, id, self.params)?.ok_or(OpcodeFault::BadParams {
+                index,
+                id,
+            }),
         }
     }
 }
@@ -104,7 +108,9 @@ impl RawOpcode<'_> {
 pub fn read_list(alloc: Global, bytes: &[u8], list: u8) -> Result<Items<Opcode>, OpcodeFault>
     requires low { 1 ≤ list }
     requires high { list ≤ 3 }
-    ensures { Answers result (opcodes_of list bytes.now) }
+    ensures answer { Answers result (opcodes_of list bytes.now) }
+    ensures can_run { IfOk result (All CanRun) }
+    ensures count { IfOk result (λ opcodes. length opcodes ≤ 16) }
 {
     if bytes.len() < 4 {
         return Err(OpcodeFault::Truncated { index: 0 });
@@ -117,8 +123,15 @@ pub fn read_list(alloc: Global, bytes: &[u8], list: u8) -> Result<Items<Opcode>,
 }
 
 /// So many opcodes, which begin the bytes.
-fn read_opcodes(alloc: Global, bytes: &[u8], list: u8, count: u32) -> Result<Items<Opcode>, OpcodeFault>
-    ensures { Answers result (opcodes_from list 0 (cut_opcodes count bytes.now)) }
+fn read_opcodes(
+    alloc: Global,
+    bytes: &[u8],
+    list: u8,
+    count: u32,
+) -> Result<Items<Opcode>, OpcodeFault>
+    ensures answer { Answers result (opcodes_from list 0 (cut_opcodes count bytes.now)) }
+    ensures can_run { IfOk result (All CanRun) }
+    ensures count { IfOk result (λ opcodes. length opcodes ≤ count) }
 {
     let mut opcodes = Vec::new(alloc);
     let mut rest = bytes;

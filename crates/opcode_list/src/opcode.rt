@@ -29,7 +29,9 @@ pub enum Opcode {
         rects: Items<Rect>,
     },
     /// TrimBounds: the plane is cropped to a rectangle that isn't empty.
-    Trim { rect: Rect },
+    Trim {
+        rect: Rect,
+    },
     /// MapTable: samples are looked up in a table.
     Map {
         rect: Rect,
@@ -45,7 +47,9 @@ pub enum Opcode {
         table: Items<u16>,
     },
     /// An opcode that isn't run, which its flags allow.
-    Skipped { id: u32 },
+    Skipped {
+        id: u32,
+    },
 }
 
 /// Why an opcode list is refused. An opcode is named by its index from 0 over all opcodes of the list, and by its ID.
@@ -109,16 +113,25 @@ impl fmt::Display for OpcodeFault {
                 write!(f, "opcode {index} passes the end of the list")
             }
             OpcodeFault::Newer { index, id } => {
-                write!(f, "opcode {index}, with the ID {id}, is of a later DNG version")
+                write!(
+                    f,
+                    "opcode {index}, with the ID {id}, is of a later DNG version"
+                )
             }
             OpcodeFault::Unknown { index, id } => {
                 write!(f, "opcode {index} has the ID {id}, which can't be run")
             }
             OpcodeFault::NotHere { index, id } => {
-                write!(f, "opcode {index}, with the ID {id}, can't be run in list 3")
+                write!(
+                    f,
+                    "opcode {index}, with the ID {id}, can't be run in list 3"
+                )
             }
             OpcodeFault::BadParams { index, id } => {
-                write!(f, "opcode {index}, with the ID {id}, has parameters that can't be run")
+                write!(
+                    f,
+                    "opcode {index}, with the ID {id}, has parameters that can't be run"
+                )
             }
             OpcodeFault::Memory => write!(f, "memory ran out"),
         }

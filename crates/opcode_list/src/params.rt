@@ -1,15 +1,14 @@
 //! The parameters of the opcodes that are run.
 
-ghost use Rattle.std.specs.Prelude.{◌≡◌, ◌+◌, ◌*◌, ◌≤◌, length, IfOk};
+ghost use Rattle.std.specs.Prelude.{◌≡◌, ◌+◌, ◌*◌, ◌≤◌, length, IfOk, IfSome};
 ghost use Rattle.opcode_list.specs.Cuts.{long_at, short_at};
-ghost use Rattle.opcode_list.specs.Params.{constant_of, fix_list_of, list_of, map_of, opcode_with, points_at, rect_at, rects_at, table_at, trim_of};
+ghost use Rattle.opcode_list.specs.Params.{CanRun, constant_of, fix_list_of, list_of, map_of, opcode_with, points_at, rect_at, rects_at, table_at, trim_of};
 
+use crate::opcode::Opcode;
 use byteorder::{BigEndian, ByteOrder};
 use lists::Items;
 use plane_view::Rect;
 use std::alloc::{AllocError, Global};
-
-use crate::opcode::Opcode;
 
 /// The IDs of the opcodes that are run.
 pub(crate) const FIX_BAD_PIXELS_CONSTANT: u32 = 4;
@@ -61,9 +60,15 @@ fn rect(params: &[u8], place: usize) -> Rect
 }
 
 /// So many points from a place on.
-fn points(alloc: Global, params: &[u8], place: usize, count: usize) -> Result<Items<(u32, u32)>, AllocError>
+fn points(
+    alloc: Global,
+    params: &[u8],
+    place: usize,
+    count: usize,
+) -> Result<Items<(u32, u32)>, AllocError>
     requires { place + 8 * count ≤ length params.now }
-    ensures { IfOk result (λ points. points ≡ points_at params.now place count) }
+    ensures points { IfOk result (λ points. points ≡ points_at params.now place count) }
+    ensures count { IfOk result (λ points. length points ≡ count) }
 {
     let mut points = Vec::with_capacity(alloc, count)?;
     for k in 0..count {
@@ -74,9 +79,15 @@ fn points(alloc: Global, params: &[u8], place: usize, count: usize) -> Result<It
 }
 
 /// So many rectangles from a place on.
-fn rects(alloc: Global, params: &[u8], place: usize, count: usize) -> Result<Items<Rect>, AllocError>
+fn rects(
+    alloc: Global,
+    params: &[u8],
+    place: usize,
+    count: usize,
+) -> Result<Items<Rect>, AllocError>
     requires { place + 16 * count ≤ length params.now }
-    ensures { IfOk result (λ rects. rects ≡ rects_at params.now place count) }
+    ensures rects { IfOk result (λ rects. rects ≡ rects_at params.now place count) }
+    ensures count { IfOk result (λ rects. length rects ≡ count) }
 {
     let mut rects = Vec::with_capacity(alloc, count)?;
     for k in 0..count {
@@ -88,7 +99,8 @@ fn rects(alloc: Global, params: &[u8], place: usize, count: usize) -> Result<Ite
 /// So many entries of a table from a place on.
 fn table(alloc: Global, params: &[u8], place: usize, count: usize) -> Result<Items<u16>, AllocError>
     requires { place + 2 * count ≤ length params.now }
-    ensures { IfOk result (λ table. table ≡ table_at params.now place count) }
+    ensures table { IfOk result (λ table. table ≡ table_at params.now place count) }
+    ensures count { IfOk result (λ table. length table ≡ count) }
 {
     let mut table = Vec::with_capacity(alloc, count)?;
     for k in 0..count {
@@ -100,7 +112,8 @@ fn table(alloc: Global, params: &[u8], place: usize, count: usize) -> Result<Ite
 /// FixBadPixelsConstant.
 #[tactic(auto, unfolding(crate::specs::Params::constant_of))]
 fn fix_constant(params: &[u8]) -> Option<Opcode>
-    ensures { result ≡ constant_of params.now }
+    ensures opcode { result ≡ constant_of params.now }
+    ensures can_run { IfSome result CanRun }
 {
     if params.len() != 8 {
         return None;
@@ -118,7 +131,8 @@ fn fix_constant(params: &[u8]) -> Option<Opcode>
 /// FixBadPixelsList.
 #[tactic(auto, unfolding(crate::specs::Params::list_of))]
 fn fix_list(alloc: Global, params: &[u8]) -> Result<Option<Opcode>, AllocError>
-    ensures { IfOk result (λ opcode. opcode ≡ list_of params.now) }
+    ensures opcode { IfOk result (λ opcode. opcode ≡ list_of params.now) }
+    ensures can_run { IfOk result (λ opcode. IfSome opcode CanRun) }
 {
     if params.len() < 12 {
         return Ok(None);
@@ -144,7 +158,8 @@ fn fix_list(alloc: Global, params: &[u8]) -> Result<Option<Opcode>, AllocError>
 /// TrimBounds.
 #[tactic(auto, unfolding(crate::specs::Params::trim_of, crate::specs::Params::rect_at))]
 fn trim(params: &[u8]) -> Option<Opcode>
-    ensures { result ≡ trim_of params.now }
+    ensures opcode { result ≡ trim_of params.now }
+    ensures can_run { IfSome result CanRun }
 {
     if params.len() != 16 {
         return None;
@@ -159,7 +174,8 @@ fn trim(params: &[u8]) -> Option<Opcode>
 /// MapTable.
 #[tactic(auto, unfolding(crate::specs::Params::map_of))]
 fn map_table(alloc: Global, params: &[u8]) -> Result<Option<Opcode>, AllocError>
-    ensures { IfOk result (λ opcode. opcode ≡ map_of params.now) }
+    ensures opcode { IfOk result (λ opcode. opcode ≡ map_of params.now) }
+    ensures can_run { IfOk result (λ opcode. IfSome opcode CanRun) }
 {
     if params.len() < 36 {
         return Ok(None);
@@ -192,7 +208,8 @@ pub(crate) fn opcode_with(
     id: u32,
     params: &[u8],
 ) -> Result<Option<Opcode>, AllocError>
-    ensures { IfOk result (λ opcode. opcode ≡ opcode_with id params.now) }
+    ensures opcode { IfOk result (λ opcode. opcode ≡ opcode_with id params.now) }
+    ensures can_run { IfOk result (λ opcode. IfSome opcode CanRun) }
 {
     match id {
         FIX_BAD_PIXELS_CONSTANT => Ok(fix_constant(params)),
