@@ -16,8 +16,8 @@ after before (Err fault) = Err fault
 -- what stands after so many opcodes of a list
 pub record HasRead (list count : ℕ) (bytes : List ℕ) (index : ℕ) (rest : List ℕ) (opcodes : List Opcode) : Type 0 where
   pub walk :
-    after opcodes (opcodes_from list index (cut_opcodes (count - index) rest))
-    ≡ opcodes_from list 0 (cut_opcodes count bytes)
+      after opcodes (opcodes_from list index (cut_opcodes (count - index) rest))
+      ≡ opcodes_from list 0 (cut_opcodes count bytes)
   pub can_run : All CanRun opcodes
   pub counted : length opcodes ≡ index
 

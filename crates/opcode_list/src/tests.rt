@@ -198,10 +198,9 @@ fn refuses_opcodes(rt: HostRuntime) {
     }
 }
 
-#[test]
-fn refuses_parameters(rt: HostRuntime) {
-    let alloc = rt.alloc();
-    for (id, len, params) in [
+// IDs, lengths and parameters with which no opcode can be run.
+fn bad_params() -> [(u32, u32, &'static [u32]); 20] {
+    [
         // a length one byte off
         (4, 7, CONSTANT.as_slice()),
         (4, 9, &[9, 1, 0]),
@@ -227,7 +226,13 @@ fn refuses_parameters(rt: HostRuntime) {
         (7, 40, &[1, 0, 8, 9, 0, 1, 0, 3, 2, 0x0005_0007]),
         (7, 40, &[1, 0, 8, 9, 0, 1, 2, 0, 2, 0x0005_0007]),
         (7, 36, &[1, 0, 8, 9, 0, 1, 2, 3, 0]),
-    ] {
+    ]
+}
+
+#[test]
+fn refuses_parameters(rt: HostRuntime) {
+    let alloc = rt.alloc();
+    for (id, len, params) in bad_params() {
         let optional = TestOpcode {
             flags: 1,
             ..told(id, len, params)
@@ -282,46 +287,51 @@ fn reads_within_the_bytes(rt: HostRuntime) -> Result<(), Fail> {
     Ok(())
 }
 
-#[test]
-fn says_faults(rt: HostRuntime) -> Result<(), Fail> {
+// Faults, what is said of them in a line, and what is shown to people.
+fn texts() -> [(OpcodeFault, &'static [u8], &'static [u8]); 7] {
     let (index, id) = (3, 4_294_967_295);
-    for (fault, said, shown) in [
+    [
         (
             OpcodeFault::TooMany,
-            "TooMany",
-            "the list has more than 16 opcodes",
+            b"TooMany",
+            b"the list has more than 16 opcodes",
         ),
         (
             OpcodeFault::Truncated { index },
-            "Truncated 3",
-            "opcode 3 passes the end of the list",
+            b"Truncated 3",
+            b"opcode 3 passes the end of the list",
         ),
         (
             OpcodeFault::Newer { index, id },
-            "Newer 3 4294967295",
-            "opcode 3, with the ID 4294967295, is of a later DNG version",
+            b"Newer 3 4294967295",
+            b"opcode 3, with the ID 4294967295, is of a later DNG version",
         ),
         (
             OpcodeFault::Unknown { index, id },
-            "Unknown 3 4294967295",
-            "opcode 3 has the ID 4294967295, which can't be run",
+            b"Unknown 3 4294967295",
+            b"opcode 3 has the ID 4294967295, which can't be run",
         ),
         (
             OpcodeFault::NotHere { index, id },
-            "NotHere 3 4294967295",
-            "opcode 3, with the ID 4294967295, can't be run in list 3",
+            b"NotHere 3 4294967295",
+            b"opcode 3, with the ID 4294967295, can't be run in list 3",
         ),
         (
             OpcodeFault::BadParams { index, id },
-            "BadParams 3 4294967295",
-            "opcode 3, with the ID 4294967295, has parameters that can't be run",
+            b"BadParams 3 4294967295",
+            b"opcode 3, with the ID 4294967295, has parameters that can't be run",
         ),
-        (OpcodeFault::Memory, "Memory", "memory ran out"),
-    ] {
+        (OpcodeFault::Memory, b"Memory", b"memory ran out"),
+    ]
+}
+
+#[test]
+fn says_faults(rt: HostRuntime) -> Result<(), Fail> {
+    for (fault, said, shown) in texts() {
         let mut line = Line::new();
         fault.say(&mut line);
-        assert_eq!(rt; line.as_bytes(), said.as_bytes());
-        assert_eq!(rt; fault.to_string(rt.alloc())?.as_str(), shown);
+        assert_eq!(rt; line.as_bytes(), said);
+        assert_eq!(rt; fault.to_string(rt.alloc())?.as_bytes(), shown);
     }
     Ok(())
 }

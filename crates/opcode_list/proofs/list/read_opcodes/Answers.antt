@@ -23,9 +23,9 @@ returns-in_err-opcode-clause-answer c =
     (opcode_of c.args.list c.loop-index.index (raw_seen c.in-Some.raw))
     (opcodes_from c.args.list 0 (cut_opcodes c.args.count c.args.bytes.now))
     (λ refused.
-        sym c.loop-index.invariant.walk
-        ∙ stops c.args.list c.loop-index.index c.args.count c.loop-index.rest.now c.loop-index.opcodes.items (raw_seen c.in-Some.raw) c.in_err-opcode.field-0.0
-        c.loop-index-test.true (sym c.in-Some.ensures.opcode) refused)
+    sym c.loop-index.invariant.walk
+    ∙ stops c.args.list c.loop-index.index c.args.count c.loop-index.rest.now c.loop-index.opcodes.items (raw_seen c.in-Some.raw) c.in_err-opcode.field-0.0
+    c.loop-index-test.true (sym c.in-Some.ensures.opcode) refused)
     c.in_err-opcode.ensures.answer)
 
 pub loop-index-preserved : goal.loop-index-preserved
