@@ -1,7 +1,7 @@
 // A source over a reader of std, and a sink over a writer. They tell what these tell of their bytes.
 
-ghost use Rattle.std.specs.Prelude.{◌≡◌, ℕ, ◌<◌, ◌≤◌, List, [], length, take, Some, IfOk, OnErr, IfSome};
-ghost use Rattle.std.specs.Prelude.{is_err, if◌then◌else◌};
+ghost use Rattle.std.specs.Prelude.{◌≡◌, ℕ, ◌<◌, ◌≤◌, false, is_err, if◌then◌else◌};
+ghost use Rattle.std.specs.Prelude.{List, [], length, take, Some, IfOk, IsOk, OnErr, IfSome};
 ghost use Rattle.std.specs.Io.KnownBytes.{Keeps, WriteAppends};
 ghost use Rattle.raw_io.specs.Outside.{Takes, Appends};
 ghost use Rattle.raw_io.specs.Memory.{one_more};
@@ -70,13 +70,13 @@ pub struct StdSink<W: Write> {
 impl<W: Write> Model for StdSink<W> {
     ghost Value = { WriterSink };
 
-    ghost view = { λ s. record { held = W.contents s.output; faults = s.faults } };
+    ghost view = { λ s. record { held = W.contents s.output; waits = s.unflushed; faults = s.faults } };
 }
 
 impl<W: Write> StdSink<W> {
     /// What this writer takes.
     pub fn new(output: W) -> Self
-        ensures { result ≡ record { held = W.contents output; faults = 0 } }
+        ensures { result ≡ record { held = W.contents output; waits = false; faults = 0 } }
     {
         StdSink {
             output,
@@ -88,6 +88,8 @@ impl<W: Write> StdSink<W> {
     /// Flushes what a failed flush has left. After the last write this tells whether all bytes went out.
     pub fn flush(&mut self) -> Result<(), Failed>
         ensures kept { Keeps self.old.held self.new.held }
+        ensures waits { is_err result ≡ self.new.waits }
+        ensures nothing_waits { self.old.waits ≡ false → IsOk result }
         ensures count { self.new.faults ≡ (if is_err result then one_more self.old.faults else self.old.faults) }
     {
         let outcome = flush_rest(&mut self.output, &mut self.unflushed);
@@ -115,7 +117,9 @@ impl<W: Write> Sink for StdSink<W> {
 }
 
 fn flush_rest<W: Write>(to: &mut W, unflushed: &mut bool) -> Result<(), Failed>
-    ensures { Keeps (W.contents to.old) (W.contents to.new) }
+    ensures kept { Keeps (W.contents to.old) (W.contents to.new) }
+    ensures waits { is_err result ≡ unflushed.new }
+    ensures nothing_waits { unflushed.old ≡ false → IsOk result }
 {
     if *unflushed {
         flush(to)?;
