@@ -4,7 +4,7 @@ use Rattle.plane_view.specs.Plane.{Plane, IsWhole}
 use Rattle.plane_view.specs.declared.Rect.{Rect}
 use Rattle.malvar.specs.Demosaic.{malvar, demosaiced}
 use Rattle.dng_tags.specs.Raw.{raw}
-use Rattle.dng_tags.specs.declared.Frame.{Frame}
+use Rattle.dng_tags.specs.declared.record.Frame.{Frame}
 
 -- the whole development of an accepted frame: its raw plane, demosaiced
 unfoldable pub develop : List ℕ → Frame → Plane

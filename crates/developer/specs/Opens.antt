@@ -3,7 +3,8 @@ use Rattle.std.specs.Prelude.{◌≡◌, ℕ, ◌≤◌, ◌⊎◌, List, Option
 use Rattle.raw_io.specs.Outside.{Appends, IsFrontOf, Rises}
 use Rattle.raw_io.specs.declared.whole.ReadFault.{ReadFault}
 use Rattle.raw_io.specs.declared.whole.ReadFault.TheVariants as reads
-use Rattle.dng_tags.specs.declared.frame.FrameFault.TheVariants as frames
+use Rattle.dng_tags.specs.declared.faults.FrameFault.{FrameFault}
+use Rattle.dng_tags.specs.declared.faults.FrameFault.TheVariants as frames
 use Rattle.developer.specs.Opening.{Opened, Opening, opened_file, refused_frame}
 use Rattle.developer.specs.declared.opening.OpenFault.{OpenFault}
 use Rattle.developer.specs.declared.opening.OpenFault.TheVariants.{Refused, Unread, Memory}
@@ -15,6 +16,11 @@ abbrev pub open_fault : ReadFault → OpenFault
 open_fault reads.TooLong = Refused frames.TooLong
 open_fault reads.Failed = Unread
 open_fault reads.Memory = Memory
+
+-- a frame's fault, as a reason for which it isn't opened
+abbrev pub refused_or_memory : FrameFault → OpenFault
+refused_or_memory frames.Memory = Memory
+refused_or_memory fault = Refused fault
 
 -- reading the frame's file, whose contents may be told, gives what they call for; a read failed only where its count rose
 abbrev pub OpensFile : Option (List ℕ) → (before after : ℕ) → Result Opened OpenFault → Type 0

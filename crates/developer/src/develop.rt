@@ -1,18 +1,18 @@
 //! The whole development of a frame.
 
-ghost use Rattle.std.specs.Prelude.{◌≡◌, ◌+◌, ◌-◌, ◌*◌, ◌≤◌, ◌<◌, length, IfOk, IfSome, take, drop, slice_index, EachIndex, vec_len};
-ghost use Rattle.dng_tags.specs.Frame.{IsAccepted};
-ghost use Rattle.dng_tags.specs.Raw.{raw};
-ghost use Rattle.tiff_dirs.specs.Numbers.{short_at};
+ghost use Rattle.std.specs.Prelude.{◌≡◌, ◌≢◌, ◌+◌, ◌-◌, ◌*◌, ◌≤◌, ◌<◌, false, length, IfErr, IfOk, IfSome, None, OnOk, Some, take, drop};
+ghost use Rattle.dng_tags.specs.Facts.{IsFrame};
+ghost use Rattle.dng_tags.specs.Raw.{undecoded};
 ghost use Rattle.developer.specs.Develop.{IsDeveloped, IsWithin, develop};
 ghost use Rattle.developer.specs.Replies.{part_of};
 
-use byteorder::{BigEndian, ByteOrder, LittleEndian};
-use dng_tags::Frame;
+use dng_tags::{Frame, FrameFault};
+use frame_segments::Segments;
 use plane_view::Rect;
-use std::alloc::{AllocError, Global};
-use std::marker::Model;
-use tiff_dirs::Order;
+use stage_core::{Base, Steps, fetch_all};
+use std::alloc::Global;
+use std::marker::{Brand, Model};
+use std::sync::ledger::{Blank, Ledger};
 
 /// A developed plane: red, green and blue of each pixel. Contracts see it as a plane of samples.
 #[derive(Drop)]
@@ -33,43 +33,50 @@ impl Model for Developed {
     ghost invariant = { λ d. (d.rows ≤ 8192) × (d.cols ≤ 8192) × (length d.samples.items ≡ d.rows * d.cols * 3) };
 }
 
-/// Reads 16-bit samples.
-#[tactic(auto, unfolding(tiff_dirs::specs::Numbers::number_at))]
-fn read_samples(order: Order, bytes: &[u8], samples: &mut [u16])
-    requires { length bytes.now ≡ 2 * length samples.old }
-    ensures { EachIndex samples.new (λ k. slice_index samples.new k ≡ short_at order bytes.now (2 * k)) }
+/// Fetches a whole plane, and counts nothing.
+fn fetch_plane<B: Base, L: Ledger>(base: &mut B, samples: &mut [u16], blank: Blank)
+    requires name { blank.name ≡ L.name }
+    requires parts { blank.parts ≡ L.parts }
+    requires some { 0 < blank.parts }
+    requires whole { length samples.old ≡ length (B.plane base.old).samples }
+    ensures { samples.new ≡ (B.plane base.old).samples }
 {
-    match order {
-        Order::Little => LittleEndian::read_u16_into(bytes, samples),
-        Order::Big => BigEndian::read_u16_into(bytes, samples),
-    }
-}
-
-/// The raw plane of a frame, row by row.
-fn raw_plane(alloc: Global, bytes: &[u8], frame: &Frame) -> Result<Vec<u16>, AllocError>
-    requires { IsAccepted frame.now bytes.now }
-    ensures samples { IfOk result (λ plane. plane.items ≡ (raw bytes.now frame.now).samples) }
-    ensures pixels { IfOk result (λ plane. vec_len plane ≡ frame.now.rows * frame.now.cols) }
-{
-    let pixels = frame.rows as usize * frame.cols as usize;
-    let first = frame.strip.at as usize;
-    let mut plane = vec![in alloc; 0u16; pixels]?;
-    read_samples(frame.order, &bytes[first..first + 2 * pixels], &mut plane);
-    Ok(plane)
+    let mut work = Steps::<L>::new(blank);
+    fetch_all(base, samples, &mut work);
 }
 
 impl Developed {
     /// Develops a whole frame.
-    pub fn new(alloc: Global, bytes: &[u8], frame: &Frame) -> Result<Developed, AllocError>
-        requires { IsAccepted frame.now bytes.now }
-        ensures { IfOk result (λ plane. plane ≡ develop bytes.now frame.now) }
+    ///
+    /// # Errors
+    ///
+    /// `Segment` exactly where a segment can't be decoded; `Memory` where there is no memory.
+    pub fn new(alloc: Global, bytes: &[u8], frame: &Frame) -> Result<Developed, FrameFault>
+        requires frame { IsFrame frame.now bytes.now }
+        requires packed { frame.now.lossless ≡ false }
+        ensures developed { IfOk result (λ plane. plane ≡ develop bytes.now frame.now) }
+        ensures decoded { OnOk result (undecoded bytes.now frame.now ≡ None) }
+        ensures refused { IfErr result (λ fault. fault ≢ FrameFault.Memory → undecoded bytes.now frame.now ≡ Some fault) }
     {
-        let plane = raw_plane(alloc, bytes, frame)?;
-        let mut samples = vec![in alloc; 0u16; 3 * plane.len()]?;
-        malvar::whole(&plane, frame.rows, frame.cols, frame.cfa, &mut samples);
+        let mut segments = Segments::open(alloc, bytes, frame)?;
+        let pixels = frame.shape.rows as usize * frame.shape.cols as usize;
+        let Ok(mut raw) = vec![in alloc; 0u16; pixels] else {
+            return Err(FrameFault::Memory);
+        };
+        fetch_plane::<Segments<'_>, Brand>(&mut segments, &mut raw, Blank::new(1));
+        let Ok(mut samples) = vec![in alloc; 0u16; 3 * pixels] else {
+            return Err(FrameFault::Memory);
+        };
+        malvar::whole(
+            &raw,
+            frame.shape.rows,
+            frame.shape.cols,
+            frame.cfa,
+            &mut samples,
+        );
         Ok(Developed {
-            rows: frame.rows,
-            cols: frame.cols,
+            rows: frame.shape.rows,
+            cols: frame.shape.cols,
             samples,
         })
     }

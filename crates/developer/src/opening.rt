@@ -1,11 +1,13 @@
 //! Opening a frame: the words, the frame's file, its record and its developed plane.
 
-ghost use Rattle.std.specs.Prelude.{◌≡◌, ℕ, ◌+◌, ◌++◌, ◌≤◌, length, List, [], Option, Some, map, string_bytes, IfErr, IfOk, IfSome, OnOk, Ok};
+ghost use Rattle.std.specs.Prelude.{◌≡◌, ℕ, ◌^◌, ◌≤◌, false, length, List, [], Option, Some, map, string_bytes, IfErr, IfOk, IfSome, OnOk, Ok};
 ghost use Rattle.raw_io.specs.Outside.{Appends};
+ghost use Rattle.dng_tags.specs.Answers.{Answers};
+ghost use Rattle.dng_tags.specs.Facts.{IsFrame};
 ghost use Rattle.developer.specs.Develop.{develop};
-ghost use Rattle.developer.specs.Opening.{opened};
+ghost use Rattle.developer.specs.Opening.{built_frame, opened};
 ghost use Rattle.developer.specs.Opens.{OpensFile, Refuses};
-ghost use Rattle.developer.specs.Refusals.{fault_text, refusal_line};
+ghost use Rattle.developer.specs.Refusals.{refusal_line};
 ghost use Rattle.developer.specs.Run.{Ends, status_of};
 ghost use Rattle.developer.specs.Words.{Options, options};
 
@@ -15,7 +17,7 @@ use crate::words::read_words;
 use crate::writing::write_bytes;
 use dng_tags::{Frame, FrameFault, MAX_BYTES, read_frame};
 use raw_io::{Files, ReadFault, Sink, read_all};
-use std::alloc::{AllocError, Global};
+use std::alloc::Global;
 use std::marker::Model;
 use text_line::Line;
 
@@ -67,23 +69,31 @@ impl From<ReadFault> for OpenFault {
 }
 
 impl From<FrameFault> for OpenFault {
-    ghost use Rattle.developer.specs.declared.opening.OpenFault.TheVariants.{Refused};
+    ghost use Rattle.developer.specs.Opens.{refused_or_memory};
 
-    ghost from_gives = { λ fault e. e ≡ Refused fault };
+    ghost from_gives = { λ fault e. e ≡ refused_or_memory fault };
 
     fn from(fault: FrameFault) -> Self {
-        OpenFault::Refused(fault)
+        match fault {
+            FrameFault::Memory => OpenFault::Memory,
+            fault => OpenFault::Refused(fault),
+        }
     }
 }
 
-impl From<AllocError> for OpenFault {
-    ghost use Rattle.developer.specs.declared.opening.OpenFault.TheVariants.{Memory};
-
-    ghost from_gives = { λ _ e. e ≡ Memory };
-
-    fn from(_: AllocError) -> Self {
-        OpenFault::Memory
+/// The frame of a file of at most [`MAX_BYTES`] bytes, of a form that is developed today.
+#[tactic(auto, unfolding(crate::specs::Opening::built_frame))]
+fn read_built(alloc: Global, bytes: &[u8]) -> Result<Frame, FrameFault>
+    requires { length bytes.now ≤ 2 ^ 28 }
+    ensures answer { Answers result (built_frame bytes.now) }
+    ensures frame { IfOk result (λ frame. IsFrame frame bytes.now) }
+    ensures packed { IfOk result (λ frame. frame.lossless ≡ false) }
+{
+    let frame = read_frame(alloc, bytes)?;
+    if !frame.is_built() {
+        return Err(FrameFault::NotYet);
     }
+    Ok(frame)
 }
 
 impl OpenedFrame {
@@ -94,7 +104,7 @@ impl OpenedFrame {
         ensures opens { OpensFile (F.told files.old name.now) (F.faults files.old name.now) (F.faults files.new name.now) result }
     {
         let bytes = read_all(alloc, files, name, MAX_BYTES)?;
-        let frame = read_frame(&bytes)?;
+        let frame = read_built(alloc, &bytes)?;
         let plane = Developed::new(alloc, &bytes, &frame)?;
         Ok(OpenedFrame {
             bytes,
@@ -174,28 +184,7 @@ fn refuse_frame<O: Sink>(fault: FrameFault, out: &mut O) -> Ending
 {
     let mut line = Line::new();
     line.push(b"refused ");
-    say(fault, &mut line);
+    fault.say(&mut line);
     line.end();
     refuse(line.as_bytes(), Ending::Frame, out)
-}
-
-/// Appends a fault's name and its numbers in decimal.
-fn say(fault: FrameFault, line: &mut Line)
-    requires { length line.old ≤ 64 }
-    ensures text { line.new ≡ line.old ++ fault_text fault }
-    ensures within { length line.new ≤ length line.old + 40 }
-{
-    match fault {
-        FrameFault::TooLong => line.push(b"TooLong"),
-        FrameFault::NotTiff => line.push(b"NotTiff"),
-        FrameFault::BadDirectory { at } => {
-            line.push(b"BadDirectory");
-            line.push_field(u64::from(at));
-        }
-        FrameFault::NotYet => line.push(b"NotYet"),
-        FrameFault::Outside { segment } => {
-            line.push(b"Outside");
-            line.push_field(u64::from(segment));
-        }
-    }
 }

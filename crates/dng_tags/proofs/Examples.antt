@@ -8,7 +8,7 @@ use Rattle.tiff_dirs.specs.Values.{number_in, rational_in}
 use Rattle.tiff_dirs.specs.declared.Order.TheVariants.{Little}
 use Rattle.dng_tags.specs.Area.{active_of, crop_of, crop_rect, extent_of, large_enough}
 use Rattle.dng_tags.specs.Black.{black_at, greatest_black, levels_of, levels_under, repeat_of, span_of, spanning, table_of, white_of}
-use Rattle.dng_tags.specs.Built.{are_plain_colours, are_plain_levels, is_built, is_one_strip}
+use Rattle.dng_tags.specs.Built.{are_plain_colours, are_plain_levels, is_built}
 use Rattle.dng_tags.specs.Colours.{analog_of, calibration_in, calibration_of, colour_of, gain_of, gains_in, gains_of, has_gain, is_diagonal, is_positive, matrix_in, matrix_of}
 use Rattle.dng_tags.specs.Form.{depth_of, form_of, format_of, lossless_of, number_or, photometric_of, required_number_of, required_numbers_of, samples_per_pixel_of, shape_of, side_of}
 use Rattle.dng_tags.specs.Frame.{frame_of, lacks, record_of, without_opcodes_of}
@@ -70,7 +70,7 @@ unfolding frame_of record_of tiff_of open_of origin_of version_of needed_version
 flat-frame = refl
 
 flat-built : is_built flat_record ≡ true
-unfolding is_built is_one_strip are_plain_levels are_plain_colours
+unfolding is_built are_plain_levels are_plain_colours
 flat-built = refl
 
 -- one byte fewer, and a shorter file

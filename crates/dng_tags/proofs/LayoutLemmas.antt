@@ -102,7 +102,7 @@ segment_is_part shape layout k raw checked within =
     let full = full_rows_of cut.padded cut.rows here cut.rows (omega arith) (omega arith) in
     record {
       some = record { rows = omega (arith, checked.sides.some_rows); cols = omega (arith, checked.sides.some_cols) };
-      inside = record { top = omega arith; rows = omega arith; bottom = omega arith; left = omega arith; cols = omega arith; right = omega arith };
+      inside = record { top = omega arith; bottom = omega arith; left = omega arith; right = omega arith };
       rows = full.0;
       cols = omega arith;
       coded = omega (arith, mul-le (cond cut.padded cut.rows here) cut.cols cut.rows cut.cols full.1 (omega arith), checked.coded);

@@ -1,4 +1,4 @@
--- Which frames are developed today: the plain ones, one strip of 16-bit samples with no levels, areas or colours of its own.
+-- Which frames are developed today: those of packed 16-bit samples with no levels, areas or colours of their own.
 -- This is this project's own.
 use Rattle.std.specs.Prelude.{ℕ, ◌*◌, ◌==◌, nat_le, ◌&&◌, not, Bool, true, false, ℤ, pos, negsuc, List, [], ◌∷◌, is_none}
 use Rattle.std.specs.List.{list_all}
@@ -15,15 +15,6 @@ use Rattle.dng_tags.specs.declared.record.Segment.{Segment}
 abbrev pub is_same_rect : Rect → Rect → Bool
 is_same_rect one other =
     one.top == other.top && one.left == other.left && one.bottom == other.bottom && one.right == other.right
-
--- one segment, coded at the image's size, with two bytes for each pixel
-unfoldable pub is_one_strip : Shape → List Segment → Bool
-is_one_strip shape [] = false
-is_one_strip shape (segment ∷ []) =
-    segment.full_rows == shape.rows
-    && segment.full_cols == shape.cols
-    && nat_le (2 * (shape.rows * shape.cols)) segment.length
-is_one_strip shape (segment ∷ other ∷ rest) = false
 
 -- levels that leave each sample as it is
 unfoldable pub are_plain_levels : Levels → Bool
@@ -49,7 +40,6 @@ is_built frame =
     let whole = whole_rect frame.shape.rows frame.shape.cols in
     frame.depth == 16
     && not frame.lossless
-    && is_one_strip frame.shape frame.segments
     && are_plain_levels frame.levels
     && is_same_rect frame.active whole
     && is_same_rect frame.crop whole

@@ -3,11 +3,11 @@
 ghost use Rattle.std.specs.Prelude.{◌≡◌};
 ghost use Rattle.std.specs.List.{list_all};
 ghost use Rattle.plane_view.specs.Rectangles.{whole_rect};
-ghost use Rattle.dng_tags.specs.Built.{are_plain_colours, are_plain_levels, is_built, is_one_strip, is_same_rect};
+ghost use Rattle.dng_tags.specs.Built.{are_plain_colours, are_plain_levels, is_built, is_same_rect};
 ghost use Rattle.dng_tags.specs.Colours.{is_zero};
 
-use crate::record::{Colour, Frame, Levels, Segment};
-use plane_view::{Rect, Shape};
+use crate::record::{Colour, Frame, Levels};
+use plane_view::Rect;
 
 /// The depth of the samples that are developed today.
 const DEPTH: u32 = 16;
@@ -19,7 +19,7 @@ const FULL_WHITE: u32 = 65535;
 const UNIT_GAIN: u32 = 4096;
 
 impl Frame {
-    /// Whether the frame is developed today: one strip of 16-bit samples, with no levels, areas or colours of its own.
+    /// Whether the frame is developed today: packed samples of 16 bits, with no levels, areas or colours of its own.
     #[tactic(auto, unfolding(crate::specs::Built::is_built))]
     pub fn is_built(&self) -> bool
         ensures { result ≡ is_built self.now }
@@ -27,26 +27,10 @@ impl Frame {
         let whole = self.shape.rect();
         self.depth == DEPTH
             && !self.lossless
-            && is_one_strip(self.shape, self.segments.as_slice())
             && are_plain_levels(&self.levels)
             && is_same_rect(self.active, whole)
             && is_same_rect(self.crop, whole)
             && are_plain_colours(&self.colour)
-    }
-}
-
-// Whether there is one segment, coded at the image's size, with two bytes for each pixel.
-#[tactic(auto, unfolding(crate::specs::Built::is_one_strip))]
-fn is_one_strip(shape: Shape, segments: &[Segment]) -> bool
-    ensures { result ≡ is_one_strip shape segments.now }
-{
-    match segments {
-        [segment] => {
-            segment.full_rows == shape.rows
-                && segment.full_cols == shape.cols
-                && u64::from(shape.rows) * u64::from(shape.cols) <= u64::from(segment.length / 2)
-        }
-        _ => false,
     }
 }
 
