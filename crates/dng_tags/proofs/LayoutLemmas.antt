@@ -175,16 +175,19 @@ layout_parts shape layout raw checked =
       some = omega arith;
       most = omega (arith, checked.most);
       part = λ k segment there.
-        let P : Segment → Type 0 = λ s. IsPart shape s in
-        subst P (sym (made_value (segment_at shape layout) (segment_count shape cut) k segment there))
-        (segment_is_part shape layout k raw checked (made_within (segment_at shape layout) (segment_count shape cut) k segment there));
+          let P : Segment → Type 0 = λ s. IsPart shape s in
+          subst P (sym (made_value (segment_at shape layout) (segment_count shape cut) k segment there))
+          (segment_is_part shape layout k raw checked (made_within (segment_at shape layout) (segment_count shape cut) k segment there));
       covered = λ r c row col.
-        let k = number_of_pixel shape cut r c in
-        let P : Rect → Type 0 = λ rect. HasPixel rect r c in
-        (k, segment_at shape layout k, slice_get-made (segment_at shape layout) 0 (segment_count shape cut) k (pixel_within shape cut r c checked.sides row col) ∙ ap (λ i. Some (segment_at shape layout i)) (omega arith),
-          subst P (sym (rect_of_segment shape layout k)) (pixel_there shape cut r c checked.sides row col));
+          let k = number_of_pixel shape cut r c in
+          let P : Rect → Type 0 = λ rect. HasPixel rect r c in (
+            k,
+            segment_at shape layout k,
+            slice_get-made (segment_at shape layout) 0 (segment_count shape cut) k (pixel_within shape cut r c checked.sides row col) ∙ ap (λ i. Some (segment_at shape layout i)) (omega arith),
+            subst P (sym (rect_of_segment shape layout k)) (pixel_there shape cut r c checked.sides row col),
+          );
       apart = λ i k one other first second r c here there.
-        one_segment shape cut i k r c
-        (has_pixel_of shape layout i r c one (made_value (segment_at shape layout) (segment_count shape cut) i one first) here)
-        (has_pixel_of shape layout k r c other (made_value (segment_at shape layout) (segment_count shape cut) k other second) there);
+          one_segment shape cut i k r c
+          (has_pixel_of shape layout i r c one (made_value (segment_at shape layout) (segment_count shape cut) i one first) here)
+          (has_pixel_of shape layout k r c other (made_value (segment_at shape layout) (segment_count shape cut) k other second) there);
     }

@@ -27,8 +27,8 @@ unfolding raw_sample
 raw_sample-at bytes order depth segments k segment r c apart at pixel =
     let p : Segment → Bool = λ s. has_pixel r c s.rect in
     let found : find p segments ≡ Some segment =
-      find_only p segments k segment at (has_pixel-true r c segment.rect pixel)
-      (λ i other oat opass. apart i k other segment oat at (pixel_of_test r c other.rect opass) pixel) in
+    find_only p segments k segment at (has_pixel-true r c segment.rect pixel)
+    (λ i other oat opass. apart i k other segment oat at (pixel_of_test r c other.rect opass) pixel) in
     rw found refl
 
 -- one segment more

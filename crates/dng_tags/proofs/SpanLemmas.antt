@@ -26,15 +26,15 @@ of_greater P x y one other = elim (int_lt y x) as (λ b. P (cond b x y)) [ true 
 pub greatest_more : (count step limit : ℕ) (f : ℕ → ℤ) (m n : ℤ) → IsGreatest (FallsBefore count step limit) f m → IsGreatest (FallsOn count step limit) f n → IsGreatest (FallsBefore count step (limit + 1)) f (int_max m n)
 greatest_more count step limit f m n before here = record {
   bound = λ k there.
-    elim (cases_lt (k % step) limit) as (λ _. f k ≤ℤ int_max m n) [
-      inl below ↦ omega (arith, ints, clamps, before.bound k (record { within = there.within; place = below }))
-    | inr above ↦ omega (arith, ints, clamps, here.bound k (record { within = there.within; place = omega (arith, there.place) }))
-    ];
+      elim (cases_lt (k % step) limit) as (λ _. f k ≤ℤ int_max m n) [
+        | inl below ↦ omega (arith, ints, clamps, before.bound k (record { within = there.within; place = below }))
+        | inr above ↦ omega (arith, ints, clamps, here.bound k (record { within = there.within; place = omega (arith, there.place) }))
+      ];
   reached =
-    let P : ℤ → Type 0 = λ value. IsReached (FallsBefore count step (limit + 1)) f value in
-    of_greater P m n
-    (record { at = before.reached.at; there = record { within = before.reached.there.within; place = omega (arith, before.reached.there.place) }; same = before.reached.same })
-    (record { at = here.reached.at; there = record { within = here.reached.there.within; place = omega (arith, here.reached.there.place) }; same = here.reached.same });
+      let P : ℤ → Type 0 = λ value. IsReached (FallsBefore count step (limit + 1)) f value in
+      of_greater P m n
+      (record { at = before.reached.at; there = record { within = before.reached.there.within; place = omega (arith, before.reached.there.place) }; same = before.reached.same })
+      (record { at = here.reached.at; there = record { within = here.reached.there.within; place = omega (arith, here.reached.there.place) }; same = here.reached.same });
 }
 
 pub greatest_first : (count step : ℕ) (f : ℕ → ℤ) (m : ℤ) → IsGreatest (FallsOn count step 0) f m → IsGreatest (FallsBefore count step 1) f m
@@ -47,15 +47,15 @@ greatest_first count step f m here = record {
 pub black_more : (rows step limit cols : ℕ) (levels : Levels) (m n : ℤ) → IsGreatestBlack (FallsBefore rows step limit) levels cols m → IsGreatestBlack (FallsOn rows step limit) levels cols n → IsGreatestBlack (FallsBefore rows step (limit + 1)) levels cols (int_max m n)
 black_more rows step limit cols levels m n before here = record {
   bound = λ r c there col.
-    elim (cases_lt (r % step) limit) as (λ _. black_at levels r c ≤ℤ int_max m n) [
-      inl below ↦ omega (arith, ints, clamps, before.bound r c (record { within = there.within; place = below }) col)
-    | inr above ↦ omega (arith, ints, clamps, here.bound r c (record { within = there.within; place = omega (arith, there.place) }) col)
-    ];
+      elim (cases_lt (r % step) limit) as (λ _. black_at levels r c ≤ℤ int_max m n) [
+        | inl below ↦ omega (arith, ints, clamps, before.bound r c (record { within = there.within; place = below }) col)
+        | inr above ↦ omega (arith, ints, clamps, here.bound r c (record { within = there.within; place = omega (arith, there.place) }) col)
+      ];
   reached =
-    let P : ℤ → Type 0 = λ value. IsReachedBlack (FallsBefore rows step (limit + 1)) levels cols value in
-    of_greater P m n
-    (record { row = before.reached.row; col = before.reached.col; there = record { within = before.reached.there.within; place = omega (arith, before.reached.there.place) }; within = before.reached.within; same = before.reached.same })
-    (record { row = here.reached.row; col = here.reached.col; there = record { within = here.reached.there.within; place = omega (arith, here.reached.there.place) }; within = here.reached.within; same = here.reached.same });
+      let P : ℤ → Type 0 = λ value. IsReachedBlack (FallsBefore rows step (limit + 1)) levels cols value in
+      of_greater P m n
+      (record { row = before.reached.row; col = before.reached.col; there = record { within = before.reached.there.within; place = omega (arith, before.reached.there.place) }; within = before.reached.within; same = before.reached.same })
+      (record { row = here.reached.row; col = here.reached.col; there = record { within = here.reached.there.within; place = omega (arith, here.reached.there.place) }; within = here.reached.within; same = here.reached.same });
 }
 
 pub black_first : (rows step cols : ℕ) (levels : Levels) (m : ℤ) → IsGreatestBlack (FallsOn rows step 0) levels cols m → IsGreatestBlack (FallsBefore rows step 1) levels cols m
@@ -83,8 +83,8 @@ pub rows_greatest : (levels : Levels) (rows cols i limit : ℕ) (across down : �
     → IsGreatestBlack (FallsOn rows levels.black_rows i) levels cols (across +ℤ down)
 rows_greatest levels rows cols i limit across down is some most_across most_down = record {
   bound = λ r c there col.
-    rw there.place
-    (omega (arith, ints, most_across.bound c (record { within = col; place = omega (arith, mod_below c levels.black_cols (omega arith), mod_le c levels.black_cols) }), most_down.bound r there));
+      rw there.place
+      (omega (arith, ints, most_across.bound c (record { within = col; place = omega (arith, mod_below c levels.black_cols (omega arith), mod_le c levels.black_cols) }), most_down.bound r there));
   reached = record {
     row = most_down.reached.at;
     col = most_across.reached.at;
@@ -126,16 +126,16 @@ greatest_black_is levels rows cols limit m is some some_cols most =
     let at_within : r * cols + c < rows * cols = omega (arith, mul-add-lt r cols c rows most.reached.there.within most.reached.within) in
     greatest_is (map f (range_with_len 0 (rows * cols))) m
     (λ k within.
-      let here : k < rows * cols = omega arith in
-      let row : k / cols < rows = div_below k cols rows (omega arith) here in
-      rw (get_or-map-range_with_len f 0 (rows * cols) k k (pos 0) here (omega arith))
-      (most.bound (k / cols) (k % cols)
-        (record { within = row; place = omega (arith, mod_below (k / cols) levels.black_rows (omega arith), mod_le (k / cols) levels.black_rows) })
-        (mod_below k cols (omega arith))))
+    let here : k < rows * cols = omega arith in
+    let row : k / cols < rows = div_below k cols rows (omega arith) here in
+    rw (get_or-map-range_with_len f 0 (rows * cols) k k (pos 0) here (omega arith))
+    (most.bound (k / cols) (k % cols)
+    (record { within = row; place = omega (arith, mod_below (k / cols) levels.black_rows (omega arith), mod_le (k / cols) levels.black_rows) })
+    (mod_below k cols (omega arith))))
     (r * cols + c) (omega arith)
     (get_or-map-range_with_len f 0 (rows * cols) (r * cols + c) (r * cols + c) (pos 0) at_within (omega arith)
-      ∙ (ap (λ row. black_at levels row ((r * cols + c) % cols)) (div-mul-add r cols c most.reached.within)
-      ∙ (ap (λ col. black_at levels r col) (mod-mul-add r cols c most.reached.within) ∙ most.reached.same)))
+    ∙ (ap (λ row. black_at levels row ((r * cols + c) % cols)) (div-mul-add r cols c most.reached.within)
+    ∙ (ap (λ col. black_at levels r col) (mod-mul-add r cols c most.reached.within) ∙ most.reached.same)))
 
 -- no numbers at all are zeros
 pub none_greatest : (deltas : List ℤ) (count step first : ℕ) → length deltas ≡ 0 → first < step → first < count → IsGreatest (FallsOn count step first) (λ k. get_or deltas k (pos 0)) (pos 0)

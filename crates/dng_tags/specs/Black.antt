@@ -55,13 +55,13 @@ repeat_of dirs =
     then Ok repeat else Err LevelsFault)
 
 -- levels of which there are this many; where they are absent, so many zeros
-abbrev pub levels_or : (count zeros : ℕ) → Option (List (ℤ × ℤ)) → Result (List ℤ) FrameFault
-levels_or count zeros None = Ok (replicate zeros (pos 0))
-levels_or count zeros (Some qs) =
+abbrev pub levels_or : (count zero_count : ℕ) → Option (List (ℤ × ℤ)) → Result (List ℤ) FrameFault
+levels_or count zero_count None = Ok (replicate zero_count (pos 0))
+levels_or count zero_count (Some qs) =
     if length qs == count then on_scale level_scale LevelsFault qs else Err LevelsFault
 
-unfoldable pub levels_under : Dirs → Tag → (count zeros : ℕ) → Result (List ℤ) FrameFault
-levels_under dirs tag count zeros = and_then (fractions_of dirs tag) (λ found. levels_or count zeros found)
+unfoldable pub levels_under : Dirs → Tag → (count zero_count : ℕ) → Result (List ℤ) FrameFault
+levels_under dirs tag count zero_count = and_then (fractions_of dirs tag) (λ found. levels_or count zero_count found)
 
 -- the white level: that of the first sample; the greatest sample of the depth where nothing is told
 unfoldable pub white_of : Dirs → (depth : ℕ) → Result ℕ FrameFault

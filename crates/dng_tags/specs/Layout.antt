@@ -32,9 +32,9 @@ unfoldable pub checked_layout : Shape → Layout → Result Layout FrameFault
 checked_layout shape layout =
     let count = segment_count shape layout.cut in
     if nat_le count 65536
-        && nat_le (layout.cut.rows * layout.cut.cols) (2 ^ 25)
-        && nat_le count (length layout.offsets)
-        && nat_le count (length layout.counts)
+    && nat_le (layout.cut.rows * layout.cut.cols) (2 ^ 25)
+    && nat_le count (length layout.offsets)
+    && nat_le count (length layout.counts)
     then Ok layout else Err LayoutFault
 
 -- a side of a tile

@@ -36,7 +36,7 @@ coded_place segment r c = (r - segment.rect.top) * segment.full_cols + (c - segm
 unfoldable pub raw_sample : List ℕ → Order → (depth : ℕ) → List Segment → (r c : ℕ) → ℕ
 raw_sample bytes order depth segments r c =
     option_map_or (λ segment. slice_index (coded_samples bytes order depth segment) (coded_place segment r c))
-        (find (λ segment. has_pixel r c segment.rect) segments) 0
+    (find (λ segment. has_pixel r c segment.rect) segments) 0
 
 -- the plane of an image's segments
 unfoldable pub segments_plane : List ℕ → Order → (depth : ℕ) → Shape → List Segment → Plane

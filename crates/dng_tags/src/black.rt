@@ -117,11 +117,7 @@ fn read_list(
 
 // As many levels as are wanted.
 #[tactic(auto, unfolding(crate::specs::Quantities::on_scale))]
-fn levels_in(
-    alloc: Global,
-    fractions: &Fractions<'_>,
-    count: u32,
-) -> Result<Items<i32>, FrameFault>
+fn levels_in(alloc: Global, fractions: &Fractions<'_>, count: u32) -> Result<Items<i32>, FrameFault>
     ensures answer { Answers result (levels_or count 0 (Some fractions.now)) }
     ensures within { IfOk result (AreWithin 16777216) }
     ensures counts { IfOk result (λ levels. length levels ≡ count) }

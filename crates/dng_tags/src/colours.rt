@@ -65,10 +65,7 @@ fn colour_fault(tag: Tag) -> FrameFault
 
 // The fractions of a colour tag in 65536ths.
 #[tactic(auto, unfolding(crate::specs::Quantities::on_scale))]
-fn read_entries<const N: usize>(
-    tag: Tag,
-    fractions: &Fractions<'_>,
-) -> Result<[i32; N], FrameFault>
+fn read_entries<const N: usize>(tag: Tag, fractions: &Fractions<'_>) -> Result<[i32; N], FrameFault>
     requires { length fractions.now ≡ N }
     ensures answer { result ≡ colours_in tag fractions.now }
     ensures within { IfOk result (AreWithin 1048576) }

@@ -187,10 +187,8 @@ fn first_outside(segments: &Items<Segment>, file_len: u64) -> Option<usize>
     ensures some { IfSome result (λ k. k < length segments.now) }
     ensures none { IfNone result (LieWithin file_len segments.now) }
 {
-    segments
-        .as_slice()
-        .iter()
-        .position(|segment| u64::from(segment.at) + u64::from(segment.length) > file_len)
+    segments.as_slice().iter().position(|segment| u64::from(segment.at) + u64::from(segment.length)
+        > file_len)
 }
 
 #[tactic(auto, unfolding(crate::specs::Layout::layout_of))]

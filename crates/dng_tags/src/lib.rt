@@ -15,8 +15,10 @@ mod quantities;
 mod record;
 mod span;
 mod tags;
+#[cfg(test)]
+mod tests;
 mod values;
 
-pub use frame::{MAX_BYTES, read_frame};
 pub use faults::{FrameFault, MAX_FAULT_TEXT, SegmentFault};
+pub use frame::{MAX_BYTES, read_frame};
 pub use record::{Colour, Frame, Levels, Segment};

@@ -62,7 +62,11 @@ impl Scale {
             return None;
         }
         let parts = in_parts(self.parts, numerator, denominator);
-        if self.has(parts) { Some(parts as i32) } else { None }
+        if self.has(parts) {
+            Some(parts as i32)
+        } else {
+            None
+        }
     }
 
     // Whether a number of parts is not beyond the limit.

@@ -5,7 +5,10 @@ ghost use Rattle.dng_tags.specs.Tags.{allows, colour, early, later, rule_of};
 
 use crate::faults::FrameFault;
 use Home::{Main, Raw};
-use Kinds::{Byte, Long, LongOrIfd, Rational, Short, ShortLongOrRational, ShortOrLong, ShortOrRational, SignedRational, Undefined};
+use Kinds::{
+    Byte, Long, LongOrIfd, Rational, Short, ShortLongOrRational, ShortOrLong, ShortOrRational,
+    SignedRational, Undefined,
+};
 
 /// A tag of TIFF 6.0, TIFF/EP or DNG 1.6 that is read.
 #[derive(Clone, Copy, Debug, PartialEq, Eq)]

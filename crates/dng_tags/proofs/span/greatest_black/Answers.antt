@@ -23,7 +23,7 @@ loop-i-preserved c =
     let outer : cast_signed w64 (cast_unsigned w64 c.max-most.result) ≡ c.max-most.result = omega (arith, ints) in
     let here : cast_signed w64 (cast_unsigned w64 c.greatest_in_rows.result) ≡ c.greatest_in_rows.result = omega (arith, ints) in
     let same : cast_signed w64 (cast_unsigned w64 c.max-most.result) ≡ int_max most c.greatest_in_rows.result =
-        outer ∙ (c.max-most.ensures.value ∙ ap (int_max most) here) in
+    outer ∙ (c.max-most.ensures.value ∙ ap (int_max most) here) in
     let P : ℤ → Type 0 = λ value. IsGreatestBlack (FallsBefore c.args.rows levels.black_rows (c.loop-i.i + 1)) levels c.args.cols value in
     record {
       greatest = subst P (sym same) (black_more c.args.rows levels.black_rows c.loop-i.i c.args.cols levels most c.greatest_in_rows.result c.loop-i.invariant.greatest c.greatest_in_rows.ensures.greatest);

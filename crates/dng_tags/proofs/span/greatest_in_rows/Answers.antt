@@ -23,7 +23,7 @@ loop-j-preserved c =
     let outer : cast_signed w64 (cast_unsigned w64 c.max-most.result) ≡ c.max-most.result = omega (arith, ints) in
     let here : cast_signed w64 (cast_unsigned w64 c.greatest_of_place.result) ≡ c.greatest_of_place.result = omega (arith, ints) in
     let same : cast_signed w64 (cast_unsigned w64 c.max-most.result) ≡ int_max (cast_signed w64 c.loop-j.most-bits) c.greatest_of_place.result =
-        outer ∙ (c.max-most.ensures.value ∙ ap (int_max (cast_signed w64 c.loop-j.most-bits)) here) in
+    outer ∙ (c.max-most.ensures.value ∙ ap (int_max (cast_signed w64 c.loop-j.most-bits)) here) in
     let P : ℤ → Type 0 = λ most. IsGreatest (FallsBefore c.args.cols levels.black_cols (c.loop-j.j + 1)) (across_at levels c.args.i) most in
     record {
       greatest = subst P (sym same) (greatest_more c.args.cols levels.black_cols c.loop-j.j (across_at levels c.args.i) (cast_signed w64 c.loop-j.most-bits) c.greatest_of_place.result c.loop-j.invariant.greatest c.greatest_of_place.ensures.greatest);

@@ -1,0 +1,430 @@
+// Flat frames of 4 by 4 with changed entries: what is refused, and what the record has. The expected numbers were worked
+// out by hand from the rules of each tag.
+use super::*;
+use lists::Items;
+use std::alloc::{AllocError, Global};
+use std::test::Fail;
+use test_frames::{bright_red, flat};
+use text_line::Line;
+use tiff_dirs::Order;
+use tiff_write::{Field, Value};
+
+// What an entry tells in place of what the flat frame has there.
+#[derive(Clone, Copy)]
+enum Told {
+    Bytes(&'static [u8]),
+    Shorts(&'static [u16]),
+    Longs(&'static [u32]),
+    Fractions(&'static [(u32, u32)]),
+    Signed(&'static [(i32, i32)]),
+    // A type and a count, with a value of 4 bytes.
+    Odd(u16, u32),
+    // No entry.
+    Gone,
+}
+
+use FrameFault as F;
+use Told::{Bytes, Fractions, Gone, Longs, Odd, Shorts, Signed};
+
+impl Told {
+    fn field(self, alloc: Global, tag: u16) -> Result<Field, AllocError> {
+        match self {
+            Bytes(bytes) => Field::bytes(alloc, tag, bytes),
+            Shorts(numbers) => Field::shorts(alloc, tag, numbers),
+            Longs(numbers) => Field::longs(alloc, tag, numbers),
+            Fractions(fractions) => Field::rationals(alloc, tag, fractions),
+            Signed(fractions) => Field::signed_rationals(alloc, tag, fractions),
+            Odd(kind, count) => Ok(Field {
+                tag,
+                kind,
+                count,
+                value: Value::Longs(Items::from_slice(alloc, &[0])?),
+            }),
+            Gone => Field::bytes(alloc, tag, &[]),
+        }
+    }
+}
+
+// Changes of entries, and the refusal of the frame.
+type Row = (&'static [(u16, Told)], FrameFault);
+
+const FIRST_STEPS: [Row; 37] = [
+    (&[(50706, Gone)], F::NotDng),
+    (&[(50706, Bytes(&[1, 4, 0]))], F::BadEntry { tag: 50706 }),
+    (&[(50706, Bytes(&[1, 7, 0, 0]))], F::Newer),
+    (&[(50707, Bytes(&[2, 0, 0, 0]))], F::Newer),
+    (&[(50707, Bytes(&[1, 7, 0, 0]))], F::Newer),
+    (
+        &[(50707, Shorts(&[1, 4, 0, 0]))],
+        F::BadEntry { tag: 50707 },
+    ),
+    (&[(254, Longs(&[1]))], F::NoRaw),
+    (&[(254, Longs(&[1])), (330, Longs(&[8]))], F::NoRaw),
+    (&[(254, Longs(&[1, 0]))], F::BadEntry { tag: 254 }),
+    (
+        &[(254, Longs(&[1])), (330, Longs(&[u32::MAX]))],
+        F::BadDirectory { at: u32::MAX },
+    ),
+    (
+        &[(254, Longs(&[1])), (330, Longs(&[]))],
+        F::BadEntry { tag: 330 },
+    ),
+    (
+        &[(254, Longs(&[1])), (330, Odd(4, u32::MAX))],
+        F::BadEntry { tag: 330 },
+    ),
+    (&[(262, Gone)], F::BadEntry { tag: 262 }),
+    (&[(262, Longs(&[32803]))], F::BadEntry { tag: 262 }),
+    (&[(262, Shorts(&[34892]))], F::Photometric { v: 34892 }),
+    (&[(259, Shorts(&[8]))], F::Compression { v: 8 }),
+    (&[(277, Shorts(&[3]))], F::Samples { v: 3 }),
+    (&[(258, Shorts(&[32]))], F::Depth { v: 32 }),
+    (&[(258, Shorts(&[7]))], F::Depth { v: 7 }),
+    (&[(258, Gone)], F::Depth { v: 1 }),
+    (&[(258, Odd(3, u32::MAX))], F::BadEntry { tag: 258 }),
+    (&[(258, Odd(14, 1))], F::BadEntry { tag: 258 }),
+    (&[(339, Shorts(&[2]))], F::Format { v: 2 }),
+    (&[(256, Gone)], F::BadEntry { tag: 256 }),
+    (&[(256, Odd(11, 1))], F::FloatTag { tag: 256 }),
+    (&[(256, Shorts(&[9000])), (257, Gone)], F::Size),
+    (&[(256, Shorts(&[0]))], F::Size),
+    (&[(257, Shorts(&[8193]))], F::Size),
+    (&[(256, Shorts(&[8192])), (257, Shorts(&[8192]))], F::Size),
+    (&[(51008, Odd(11, 1))], F::NotYet),
+    (&[(51009, Odd(7, 0))], F::NotYet),
+    (&[(51022, Odd(7, 4))], F::NotYet),
+    (&[(50829, Shorts(&[0, 0, 4, 5]))], F::Active),
+    (&[(50829, Shorts(&[2, 0, 2, 4]))], F::Active),
+    (&[(50829, Shorts(&[0, 0, 4]))], F::Active),
+    (&[(50829, Bytes(&[0, 0, 4, 4]))], F::BadEntry { tag: 50829 }),
+    (&[(50829, Shorts(&[0, 0, 3, 4]))], F::Size),
+];
+
+const SEGMENTS: [Row; 24] = [
+    (&[(278, Shorts(&[0]))], F::Layout),
+    (&[(278, Shorts(&[4, 4]))], F::Layout),
+    (&[(278, Bytes(&[4]))], F::BadEntry { tag: 278 }),
+    (&[(278, Shorts(&[2]))], F::Layout),
+    (
+        &[(273, Gone), (278, Shorts(&[0]))],
+        F::BadEntry { tag: 273 },
+    ),
+    (&[(279, Gone)], F::BadEntry { tag: 279 }),
+    (&[(322, Odd(12, 1))], F::FloatTag { tag: 322 }),
+    (&[(322, Shorts(&[0]))], F::Layout),
+    (&[(322, Shorts(&[16385]))], F::Layout),
+    (&[(322, Shorts(&[16]))], F::BadEntry { tag: 323 }),
+    (
+        &[(322, Shorts(&[16])), (323, Shorts(&[16]))],
+        F::BadEntry { tag: 324 },
+    ),
+    (
+        &[
+            (322, Shorts(&[16])),
+            (323, Shorts(&[16])),
+            (324, Shorts(&[0])),
+        ],
+        F::BadEntry { tag: 324 },
+    ),
+    (
+        &[
+            (322, Shorts(&[16])),
+            (323, Shorts(&[16])),
+            (324, Longs(&[0])),
+        ],
+        F::BadEntry { tag: 325 },
+    ),
+    (
+        &[
+            (322, Shorts(&[16384])),
+            (323, Shorts(&[16384])),
+            (324, Longs(&[0])),
+            (325, Longs(&[0])),
+        ],
+        F::Layout,
+    ),
+    (
+        &[
+            (322, Shorts(&[2])),
+            (323, Shorts(&[4])),
+            (324, Longs(&[0])),
+            (325, Longs(&[0, 0])),
+        ],
+        F::Layout,
+    ),
+    (&[(273, Longs(&[u32::MAX]))], F::Outside { segment: 0 }),
+    (
+        &[
+            (278, Shorts(&[2])),
+            (273, Longs(&[8, 999])),
+            (279, Longs(&[9, 9])),
+        ],
+        F::Outside { segment: 1 },
+    ),
+    (&[(33421, Gone)], F::BadEntry { tag: 33421 }),
+    (&[(33421, Shorts(&[3, 2]))], F::Cfa),
+    (&[(33421, Shorts(&[2]))], F::Cfa),
+    (&[(33422, Bytes(&[0, 0, 0, 0]))], F::Cfa),
+    (
+        &[(33422, Shorts(&[0, 1, 1, 2]))],
+        F::BadEntry { tag: 33422 },
+    ),
+    (&[(50710, Bytes(&[0, 1, 3]))], F::Cfa),
+    (&[(50711, Shorts(&[2]))], F::Cfa),
+];
+
+const LEVELS_AND_CROP: [Row; 24] = [
+    (&[(50712, Shorts(&[]))], F::Levels),
+    (&[(50712, Longs(&[5]))], F::BadEntry { tag: 50712 }),
+    (&[(50713, Shorts(&[0, 1]))], F::Levels),
+    (&[(50713, Shorts(&[1, 9]))], F::Levels),
+    (&[(50714, Fractions(&[(1, 0)]))], F::Levels),
+    (&[(50714, Shorts(&[65535]))], F::Levels),
+    (&[(50714, Longs(&[65537]))], F::Levels),
+    (&[(50714, Shorts(&[1, 1]))], F::Levels),
+    (&[(50714, Signed(&[(1, 1)]))], F::BadEntry { tag: 50714 }),
+    (
+        &[(50713, Shorts(&[2, 1])), (50714, Shorts(&[0, 65535]))],
+        F::Levels,
+    ),
+    (&[(50715, Signed(&[(0, 1); 3]))], F::Levels),
+    (
+        &[(50715, Signed(&[(0, 1), (0, 1), (0, 1), (0, -1)]))],
+        F::Levels,
+    ),
+    (
+        &[(50715, Signed(&[(0, 1), (0, 1), (0, 1), (65535, 1)]))],
+        F::Levels,
+    ),
+    (
+        &[(50716, Signed(&[(0, 1), (0, 1), (0, 1), (65535, 1)]))],
+        F::Levels,
+    ),
+    (&[(50716, Shorts(&[0; 4]))], F::BadEntry { tag: 50716 }),
+    (&[(50717, Shorts(&[0]))], F::Levels),
+    (&[(50717, Longs(&[65536]))], F::Levels),
+    (&[(50719, Fractions(&[(0, 0), (0, 1)]))], F::Crop),
+    (&[(50719, Shorts(&[4, 0]))], F::Crop),
+    (&[(50719, Shorts(&[0]))], F::Crop),
+    (&[(50719, Signed(&[(0, 1); 2]))], F::BadEntry { tag: 50719 }),
+    (&[(50720, Shorts(&[0, 0]))], F::Crop),
+    (&[(50720, Fractions(&[(9, 10), (4, 1)]))], F::Crop),
+    (
+        &[(50719, Shorts(&[4, 0])), (50720, Odd(11, 2))],
+        F::FloatTag { tag: 50720 },
+    ),
+];
+
+const COLOURS: [Row; 14] = [
+    (&[(50721, Signed(&[(1, 1); 8]))], F::Colour { tag: 50721 }),
+    (&[(50721, Signed(&[(1, 0); 9]))], F::Colour { tag: 50721 }),
+    (&[(50721, Signed(&[(1, -1); 9]))], F::Colour { tag: 50721 }),
+    (&[(50722, Signed(&[(17, 1); 9]))], F::Colour { tag: 50722 }),
+    (
+        &[(50722, Fractions(&[(1, 1); 9]))],
+        F::BadEntry { tag: 50722 },
+    ),
+    (&[(50723, Signed(&[(1, 1); 9]))], F::Colour { tag: 50723 }),
+    (
+        &[(50724, Signed(&[(1, 1); 9])), (50723, Odd(11, 9))],
+        F::FloatTag { tag: 50723 },
+    ),
+    (
+        &[(50727, Fractions(&[(1, 1), (0, 1), (1, 1)]))],
+        F::Colour { tag: 50727 },
+    ),
+    (
+        &[(50728, Fractions(&[(0, 1), (1, 1), (1, 1)]))],
+        F::Colour { tag: 50728 },
+    ),
+    (
+        &[(50728, Fractions(&[(1, 1), (1, 1), (1, 0)]))],
+        F::Colour { tag: 50728 },
+    ),
+    (&[(50728, Shorts(&[1, 1]))], F::Colour { tag: 50728 }),
+    (&[(50728, Shorts(&[1, 257, 1]))], F::Colour { tag: 50728 }),
+    (&[(50964, Signed(&[(-17, 1); 9]))], F::Colour { tag: 50964 }),
+    (&[(50965, Signed(&[(1, 1)]))], F::Colour { tag: 50965 }),
+];
+
+// The flat frame with these changes.
+fn changed(alloc: Global, changes: &[(u16, Told)], order: Order) -> Result<Vec<u8>, AllocError> {
+    let mut frame = flat(alloc)?;
+    for (tag, told) in changes {
+        frame = match told {
+            Gone => frame.without(*tag),
+            _ => frame.with(told.field(alloc, *tag)?)?,
+        };
+    }
+    frame.bytes(alloc, order)
+}
+
+// The record of a file, or its refusal.
+fn read(alloc: Global, bytes: &[u8]) -> Result<Frame, FrameFault> {
+    if bytes.len() as u64 > MAX_BYTES {
+        return Err(F::TooLong);
+    }
+    read_frame(alloc, bytes)
+}
+
+// The first row that is refused otherwise than it says.
+fn first_wrong(alloc: Global, rows: &[Row]) -> Result<Option<usize>, AllocError> {
+    for (i, row) in rows.iter().enumerate() {
+        let bytes = changed(alloc, row.0, Order::Little)?;
+        match read(alloc, &bytes) {
+            Err(fault) if fault == row.1 => {}
+            _ => return Ok(Some(i)),
+        }
+    }
+    Ok(None)
+}
+
+#[test]
+fn refuses(rt: HostRuntime) -> Result<(), Fail> {
+    let alloc = rt.alloc();
+    assert_eq!(rt; first_wrong(alloc, &FIRST_STEPS)?, None);
+    assert_eq!(rt; first_wrong(alloc, &SEGMENTS)?, None);
+    assert_eq!(rt; first_wrong(alloc, &LEVELS_AND_CROP)?, None);
+    assert_eq!(rt; first_wrong(alloc, &COLOURS)?, None);
+    assert_eq!(rt; read(alloc, b"").err(), Some(F::NotTiff));
+    assert_eq!(rt;
+        read(alloc, b"II*\0\x08\0\0\0\x01\0").err(),
+        Some(F::BadDirectory { at: 8 })
+    );
+    Ok(())
+}
+
+// The gains, the black levels, the white level and the crop's edges that are told.
+fn values_of(frame: &Frame) -> ([u32; 3], Option<i32>, u32, [u32; 4]) {
+    let crop = frame.crop;
+    (
+        frame.colour.gains,
+        frame.levels.black.get(0).copied(),
+        frame.levels.white,
+        [crop.top, crop.left, crop.bottom, crop.right],
+    )
+}
+
+// Entries, and what of the record they change. Absent entries are the defaults.
+const RECORDS: [(&[(u16, Told)], ([u32; 3], Option<i32>, u32, [u32; 4])); 6] = [
+    (&[], ([4096; 3], Some(0), 65535, [0, 0, 4, 4])),
+    (
+        &[(50728, Fractions(&[(1, 2), (1, 1), (2, 3)]))],
+        ([8192, 4096, 6144], Some(0), 65535, [0, 0, 4, 4]),
+    ),
+    (
+        &[(50714, Fractions(&[(1, 512)])), (50717, Shorts(&[4095, 9]))],
+        ([4096; 3], Some(1), 4095, [0, 0, 4, 4]),
+    ),
+    (
+        &[(258, Shorts(&[12])), (50719, Fractions(&[(3, 2), (0, 1)]))],
+        ([4096; 3], Some(0), 4095, [0, 1, 4, 4]),
+    ),
+    (
+        &[(50719, Shorts(&[1, 2])), (50720, Shorts(&[2, 9]))],
+        ([4096; 3], Some(0), 65535, [2, 1, 4, 3]),
+    ),
+    (
+        &[(50707, Bytes(&[1, 3, 0, 0])), (50706, Bytes(&[1, 7, 0, 0]))],
+        ([4096; 3], Some(0), 65535, [0, 0, 4, 4]),
+    ),
+];
+
+#[test]
+fn reads_records(rt: HostRuntime) -> Result<(), Fail> {
+    let alloc = rt.alloc();
+    for (changes, want) in &RECORDS {
+        for order in [Order::Little, Order::Big] {
+            let bytes = changed(alloc, changes, order)?;
+            let frame = read(alloc, &bytes)?;
+            assert_eq!(rt; values_of(&frame), *want);
+            assert_eq!(rt; frame.order, order);
+        }
+    }
+    Ok(())
+}
+
+// The offsets, rows and coded sizes of a frame's segments.
+fn segments_are(frame: &Frame, want: &[[u32; 7]]) -> bool {
+    frame.segments.len() == want.len()
+        && frame.segments.as_slice().iter().zip(want).all(|(segment, want)| {
+            let rect = segment.rect;
+            [
+                segment.length,
+                rect.top,
+                rect.left,
+                rect.bottom,
+                rect.right,
+                segment.full_rows,
+                segment.full_cols,
+            ] == *want
+        })
+}
+
+#[test]
+fn cuts_images(rt: HostRuntime) -> Result<(), Fail> {
+    let alloc = rt.alloc();
+    let strips = [
+        (278, Shorts(&[3])),
+        (273, Longs(&[8, 9])),
+        (279, Longs(&[24, 8])),
+    ];
+    let frame = read(alloc, &changed(alloc, &strips, Order::Little)?)?;
+    assert!(rt; segments_are(&frame, &[[24, 0, 0, 3, 4, 3, 4], [8, 3, 0, 4, 4, 1, 4]]));
+    let tiles = [
+        (322, Shorts(&[3])),
+        (323, Shorts(&[16])),
+        (324, Longs(&[8, 9])),
+        (325, Longs(&[1, 2])),
+    ];
+    let frame = read(alloc, &changed(alloc, &tiles, Order::Little)?)?;
+    assert!(rt; segments_are(&frame, &[[1, 0, 0, 4, 3, 16, 3], [2, 0, 3, 4, 4, 16, 3]]));
+    assert!(rt; !frame.is_built());
+    Ok(())
+}
+
+#[test]
+fn finds_the_raw_directory(rt: HostRuntime) -> Result<(), Fail> {
+    let alloc = rt.alloc();
+    let plain = flat(alloc)?.bytes(alloc, Order::Little)?;
+    let plain = read(alloc, &plain)?;
+    assert!(rt; plain.is_built());
+    let inner = flat(alloc)?
+        .in_sub_directory(alloc)?
+        .bytes(alloc, Order::Big)?;
+    let inner = read(alloc, &inner)?;
+    assert_eq!(rt; inner.shape, plain.shape);
+    assert!(rt; inner.is_built());
+    let twice = flat(alloc)?
+        .and(Field::shorts(alloc, 256, &[9])?)?
+        .bytes(alloc, Order::Little)?;
+    assert_eq!(rt; read(alloc, &twice)?.shape, plain.shape);
+    let red = bright_red(alloc)?.bytes(alloc, Order::Little)?;
+    assert_eq!(rt; read(alloc, &red)?.shape.cols, 8);
+    Ok(())
+}
+
+// Whether a fault says this.
+fn says(fault: FrameFault, want: &[u8]) -> bool {
+    let mut line = Line::new();
+    fault.say(&mut line);
+    line.as_bytes() == want
+}
+
+#[test]
+fn tells_faults(rt: HostRuntime) {
+    assert!(rt; says(F::Newer, b"Newer"));
+    assert!(rt; says(F::Compression { v: 8 }, b"Compression 8"));
+    assert!(rt;
+        says(
+            F::BadDirectory { at: 4_294_967_280 },
+            b"BadDirectory 4294967280"
+        )
+    );
+    let short = strip_unpack::Short {
+        needed: 32,
+        had: 31,
+    };
+    let why = SegmentFault::Short(short);
+    assert!(rt; says(F::Segment { segment: 0, why }, b"Segment 0 Short 32 31"));
+}
