@@ -1,5 +1,5 @@
 -- What is called for before the script, of a file that was read.
-use Rattle.std.proofs.Common.{◌≡◌, ℕ, ◌^◌, ◌<◌, ◌≤◌, List, length, Option, None, Some, Result, Ok, Err, refl, sym, ◌∙◌, ap, subst}
+use Rattle.std.proofs.Common.{◌≡◌, ◌≢◌, ℕ, ◌^◌, ◌<◌, ◌≤◌, List, length, Option, None, Some, Result, Ok, Err, refl, sym, ◌∙◌, ap, subst}
 use Rattle.std.specs.Prelude.{IfSome, IsErrOf}
 use Rattle.std.proofs.lemmas.Bool.{le-ltb, lt-ltb}
 use Rattle.raw_io.specs.Outside.{Rises}
@@ -10,8 +10,9 @@ use Rattle.dng_tags.specs.Raw.{undecoded}
 use Rattle.dng_tags.specs.declared.record.Frame.{Frame}
 use Rattle.dng_tags.specs.declared.faults.FrameFault.{FrameFault}
 use Rattle.dng_tags.specs.declared.faults.FrameFault.TheVariants.{TooLong}
+use Rattle.dng_tags.specs.declared.faults.FrameFault.TheVariants as frames
 use Rattle.developer.specs.Opening.{Opened, Opening, built_frame, file_frame, if_decoded, opened_as, opened_file, refused_frame}
-use Rattle.developer.specs.Opens.{OpensFile, open_fault}
+use Rattle.developer.specs.Opens.{OpensFile, open_fault, refused_or_memory}
 use Rattle.developer.proofs.Outsides.{if_some}
 
 -- a file that is too long
@@ -55,3 +56,8 @@ file_read contents bytes frame told is =
     called_file contents (opened_as bytes frame)
     (if_some contents (λ (all : List ℕ). bytes ≡ all) (λ all. opened_as all (file_frame all) ≡ opened_as bytes frame)
     (λ all h. subst (λ (b : List ℕ). opened_as b (file_frame b) ≡ opened_as bytes frame) h (ap (opened_as bytes) is)) told)
+
+-- a file that is refused, unless there was no memory
+pub file_refuses : (contents : Option (List ℕ)) (before after : ℕ) (bytes : List ℕ) (fault : FrameFault) → IfSome contents (λ told. bytes ≡ told) → (fault ≢ frames.Memory → file_frame bytes ≡ Err fault) → OpensFile contents before after (Err (refused_or_memory fault))
+file_refuses contents before after bytes frames.Memory told is = tt
+file_refuses contents before after bytes fault told is = file_read contents bytes (Err fault) told (is (λ e. cc))
