@@ -1,5 +1,5 @@
 -- The definitions at work on lists of one opcode.
-use Rattle.std.proofs.Common.{◌≡◌, ℕ, List, [], ◌∷◌, ◌++◌, Ok, Err, refl}
+use Rattle.std.proofs.Common.{◌≡◌, ℕ, List, [], ◌∷◌, ◌++◌, Ok, Err, Some, refl}
 use Rattle.opcode_list.specs.Cuts.{cut_opcodes, first_opcode, long_at, short_at}
 use Rattle.opcode_list.specs.Lists.{barred_by, opcode_of, opcodes_from, opcodes_of}
 use Rattle.opcode_list.specs.Params.{map_of, opcode_with, rect_at, table_at, trim_of}
@@ -41,8 +41,8 @@ trim : opcodes_of 3 (one 6 3 0 16 rect_bytes) ≡ Ok (Trim (record { top = 1; le
 unfolding opcodes_of opcodes_from cut_opcodes first_opcode long_at opcode_of barred_by opcode_with trim_of rect_at
 trim = refl
 
-mapped : opcodes_of 1 (one 7 6 1 40 map_bytes) ≡ Ok (Map (record { top = 1; left = 0; bottom = 8; right = 9 }) 0 1 2 3 (5 ∷ 263 ∷ []) ∷ [])
-unfolding opcodes_of opcodes_from cut_opcodes first_opcode long_at short_at opcode_of barred_by opcode_with map_of rect_at table_at
+mapped : map_of map_bytes ≡ Some (Map (record { top = 1; left = 0; bottom = 8; right = 9 }) 0 1 2 3 (5 ∷ 263 ∷ []))
+unfolding map_of rect_at table_at long_at short_at
 mapped = refl
 
 newer : opcodes_of 1 (one 1 7 0 0 []) ≡ Err (Newer 0 1)

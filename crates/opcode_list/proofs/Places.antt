@@ -4,16 +4,24 @@ use Rattle.std.proofs.lemmas.List.FromFn.{length-map-range_with_len, map-range_w
 use Rattle.opcode_list.specs.Cuts.{long_at, short_at}
 use Rattle.opcode_list.specs.Params.{points_at, rect_at, rects_at, table_at}
 
-pub points_at-more : (params : List ℕ) (place k : ℕ) → points_at params place (k + 1) ≡ points_at params place k ++ (long_at params (place + 8 * k), long_at params (place + 8 * k + 4)) ∷ []
+pub points_at-more :
+    (params : List ℕ) (place k : ℕ) →
+    points_at params place (k + 1)
+    ≡ points_at params place k ++ (long_at params (place + 8 * k), long_at params (place + 8 * k + 4)) ∷ []
 unfolding points_at
 points_at-more params place k =
-    map-range_with_len_more (λ j. (long_at params (place + 8 * j), long_at params (place + 8 * j + 4))) 0 k k (omega arith)
+    map-range_with_len_more (λ j. (long_at params (place + 8 * j), long_at params (place + 8 * j + 4))) 0 k k
+    (omega arith)
 
-pub rects_at-more : (params : List ℕ) (place k : ℕ) → rects_at params place (k + 1) ≡ rects_at params place k ++ rect_at params (place + 16 * k) ∷ []
+pub rects_at-more :
+    (params : List ℕ) (place k : ℕ) →
+    rects_at params place (k + 1) ≡ rects_at params place k ++ rect_at params (place + 16 * k) ∷ []
 unfolding rects_at
 rects_at-more params place k = map-range_with_len_more (λ j. rect_at params (place + 16 * j)) 0 k k (omega arith)
 
-pub table_at-more : (params : List ℕ) (place k : ℕ) → table_at params place (k + 1) ≡ table_at params place k ++ short_at params (place + 2 * k) ∷ []
+pub table_at-more :
+    (params : List ℕ) (place k : ℕ) →
+    table_at params place (k + 1) ≡ table_at params place k ++ short_at params (place + 2 * k) ∷ []
 unfolding table_at
 table_at-more params place k = map-range_with_len_more (λ j. short_at params (place + 2 * j)) 0 k k (omega arith)
 

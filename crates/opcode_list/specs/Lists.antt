@@ -68,8 +68,8 @@ opcodes_from list index (cut ∷ cuts) =
     (λ opcode. and_then (opcodes_from list (index + 1) cuts)
     (λ more. Ok (opcode ∷ more)))
 
--- the list that the bytes of tag OpcodeList1, 2 or 3 tell: a count, at most 16, and the opcodes. Bytes behind the last one
--- aren't looked at
+-- the list that the value of the tag OpcodeList1, 2 or 3 tells: a count, at most 16, and the opcodes. Bytes behind the
+-- last one aren't looked at
 unfoldable pub opcodes_of : ℕ → List ℕ → Result (List Opcode) OpcodeFault
 opcodes_of list bytes =
     if nat_lt (length bytes) 4 then Err (Truncated 0)

@@ -59,7 +59,7 @@ trim_of params =
 unfoldable pub table_at : List ℕ → ℕ → ℕ → List ℕ
 table_at params place count = map (λ k. short_at params (place + 2 * k)) (range_with_len 0 count)
 
--- MapTable: a rectangle, the first plane and how many, the pitches of rows and columns, the size of the table, the table
+-- MapTable: a rectangle, the first plane and how many, the pitches of rows and columns, the table's size, the table
 unfoldable pub map_of : List ℕ → Option Opcode
 map_of params =
     if nat_lt (length params) 36 then None
@@ -80,8 +80,8 @@ opcode_with id params =
     else (if id == 6 then trim_of params
     else map_of params))
 
--- what holds of each opcode that is read: one that is run has a phase of 0 to 3, a rectangle that isn't empty, pitches of
--- at least 1, a table of 1 to 65,536 entries, at most 65,536 points and 1,024 rectangles
+-- what holds of each opcode that is read: one that is run has a phase of 0 to 3, a rectangle that isn't empty, pitches
+-- of at least 1, a table of 1 to 65,536 entries, at most 65,536 points and 1,024 rectangles
 abbrev pub CanRun : Opcode → Type 0
 CanRun (FixConstant constant phase) = phase ≤ 3
 CanRun (FixList phase points rects) = (phase ≤ 3) × (length points ≤ 65536) × (length rects ≤ 1024)

@@ -1,19 +1,18 @@
-use Rattle.std.proofs.Common.{◌≡◌, ◌++◌, ◌∷◌, [], ◌∙◌, arith, sym}
+use Rattle.std.proofs.Common.{◌≡◌, ◌++◌, ◌∷◌, [], arith, sym}
 use Rattle.std.proofs.lemmas.Grind.{common_steps}
 use Rattle.std.proofs.lemmas.Result.{err_from_is_err_and}
 use Rattle.opcode_list.specs.Cuts.{cut_opcodes}
 use Rattle.opcode_list.specs.Lists.{opcode_of, opcodes_from}
 use Rattle.opcode_list.specs.Seen.{raw_seen}
-use Rattle.opcode_list.proofs.Walk.{ends, hands_on, read_none, read_one, stops, stops_short}
+use Rattle.opcode_list.proofs.Walk.{begins, ends, goes_on, hands_on, stops, stops_short}
 use Rattle.opcode_list.proofs.list.read_opcodes.Goals as goal
 
 pub loop-index-init : goal.loop-index-init
-loop-index-init c = rw c.new-opcodes.ensures.items (read_none c.args.list c.args.count c.args.bytes.now)
+loop-index-init c = rw c.new-opcodes.ensures.items (begins c.args.list c.args.count c.args.bytes.now)
 
 pub returns-in_default-clause-answer : goal.returns-in_default-clause-answer
 returns-in_default-clause-answer c =
-    sym c.loop-index.invariant.walk
-    ∙ stops_short c.args.list c.loop-index.index c.args.count c.loop-index.rest.now c.loop-index.opcodes.items c.loop-index-test.true (sym c.in_default.ensures.opcode)
+    stops_short c.loop-index.invariant c.loop-index-test.true (sym c.in_default.ensures.opcode)
 
 pub returns-in_err-opcode-clause-answer : goal.returns-in_err-opcode-clause-answer
 returns-in_err-opcode-clause-answer c =
@@ -22,21 +21,17 @@ returns-in_err-opcode-clause-answer c =
     (hands_on c.in_err-opcode.field-0.0
     (opcode_of c.args.list c.loop-index.index (raw_seen c.in-Some.raw))
     (opcodes_from c.args.list 0 (cut_opcodes c.args.count c.args.bytes.now))
-    (λ refused.
-    sym c.loop-index.invariant.walk
-    ∙ stops c.args.list c.loop-index.index c.args.count c.loop-index.rest.now c.loop-index.opcodes.items (raw_seen c.in-Some.raw) c.in_err-opcode.field-0.0
-    c.loop-index-test.true (sym c.in-Some.ensures.opcode) refused)
+    (stops c.loop-index.invariant c.loop-index-test.true (sym c.in-Some.ensures.opcode))
     c.in_err-opcode.ensures.answer)
 
 pub loop-index-preserved : goal.loop-index-preserved
 loop-index-preserved c =
-    let pushed : c.push.new.self.items ≡ c.loop-index.opcodes.items ++ c.in_ok-opcode.opcode ∷ [] = grind (arith, common_steps) in
+    let pushed : c.push.new.self.items ≡ c.loop-index.opcodes.items ++ c.in_ok-opcode.opcode ∷ [] =
+    grind (arith, common_steps) in
+    let cut = sym c.in-Some.ensures.opcode in
+    let read = c.in_ok-opcode.ensures in
     rw (pushed, c.in-Some.ensures.rest)
-    (read_one c.args.list c.args.count c.args.bytes.now c.loop-index.index c.loop-index.rest.now c.loop-index.opcodes.items (raw_seen c.in-Some.raw) c.in_ok-opcode.opcode
-    c.loop-index.invariant c.loop-index-test.true (sym c.in-Some.ensures.opcode) c.in_ok-opcode.ensures.answer c.in_ok-opcode.ensures.can_run)
+    (goes_on c.loop-index.invariant c.loop-index-test.true cut read.answer read.can_run)
 
 pub returns-clause-answer : goal.returns-clause-answer
-returns-clause-answer c =
-    rw c.from_vec.ensures
-    (sym c.loop-index.invariant.walk
-    ∙ ends c.args.list c.loop-index.index c.args.count c.loop-index.rest.now c.loop-index.opcodes.items c.loop-index-test.false)
+returns-clause-answer c = rw c.from_vec.ensures (ends c.loop-index.invariant c.loop-index-test.false)
