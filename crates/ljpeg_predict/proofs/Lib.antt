@@ -9,3 +9,4 @@ pub mod FreeLemmas
 pub mod AnswerLemmas
 pub mod OneAnswerLemmas
 pub mod RebuiltLemmas
+pub mod WriterLemmas

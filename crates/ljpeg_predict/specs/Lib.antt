@@ -1,4 +1,5 @@
 pub mod Chain
+pub mod Encoding
 pub mod Faults
 pub mod Headers
 pub mod Lines
@@ -6,3 +7,4 @@ pub mod Prediction
 pub mod Scans
 pub mod Segments
 pub mod Streams
+pub mod Writing

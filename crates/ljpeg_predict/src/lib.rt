@@ -13,6 +13,7 @@ mod lines;
 mod samples;
 mod scan;
 mod segments;
+mod writer;
 #[cfg(test)]
 mod tests;
 
