@@ -10,3 +10,4 @@ pub mod AnswerLemmas
 pub mod OneAnswerLemmas
 pub mod RebuiltLemmas
 pub mod WriterLemmas
+pub mod EncodeLemmas

@@ -1,5 +1,5 @@
 -- Numbers modulo 2^16.
-use Rattle.std.proofs.Common.{◌≡◌, ℕ, suc, ◌+◌, ◌*◌, ◌%◌, ◌<◌, ℤ, pos, negsuc, ◌+ℤ◌, refl, sym, ap, ap₂, ◌∙◌, arith, lit<, unsigned_abs}
+use Rattle.std.proofs.Common.{◌≡◌, ℕ, suc, ◌+◌, ◌*◌, ◌%◌, ◌<◌, ℤ, pos, negsuc, ◌+ℤ◌, ◌-ℤ◌, ◌-◌, refl, sym, ap, ap₂, ◌∙◌, arith, lit<, unsigned_abs}
 use Rattle.std.proofs.lemmas.Int.{ints, int_rem_euclid_is}
 use Rattle.ljpeg_huffman.specs.Differences.{modulo}
 
@@ -40,3 +40,12 @@ modulo_below z =
     let t = natural z in
     let e = modulo_is z t.k t.m t.is in
     omega (arith, e)
+
+-- a difference modulo 2^16
+pub modulo-sub : (n : ℕ) (z : ℤ) → (n + (65536 - modulo z)) % 65536 ≡ modulo (pos n -ℤ z)
+modulo-sub n z =
+    let t = natural z in
+    let e : z +ℤ pos (t.k * 65536) ≡ pos t.m = t.is in
+    let whole : (pos n -ℤ z) +ℤ pos (t.m * 65536) ≡ pos (n + t.m * 65535 + t.k * 65536) = omega (arith, ints) in
+    let parts : (n + (65536 - t.m % 65536)) % 65536 ≡ (n + t.m * 65535 + t.k * 65536) % 65536 = omega arith in
+    ap (λ x. (n + (65536 - x)) % 65536) (modulo_is z t.k t.m e) ∙ parts ∙ sym (modulo_is (pos n -ℤ z) t.m (n + t.m * 65535 + t.k * 65536) whole)

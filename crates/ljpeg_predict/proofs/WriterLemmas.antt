@@ -3,6 +3,7 @@ use Rattle.std.proofs.Common.{◌≡◌, ℕ, zero, suc, ◌+◌, ◌-◌, ◌*�
 use Rattle.std.specs.List.{flat_map}
 use Rattle.std.proofs.lemmas.Bool.{cond-true, cond-false}
 use Rattle.std.proofs.Math.Nat.{mul-le-mul_right, pow-le-pow_right}
+use Rattle.std.proofs.Math.Seq.{take-append_seam}
 use Rattle.std.proofs.lemmas.Grind.{flat_map-append}
 use Rattle.std.proofs.lemmas.List.{length-take, take_all, take-take}
 use Rattle.std.proofs.lemmas.Nat.{one_shl, shr_high}
@@ -79,7 +80,7 @@ adds_byte old middle new bits word before held byte more a is written =
       stretch = a.stretch ++ byte ∷ [];
       is = written ∙ ap (λ x. x ++ stuffed (byte ∷ [])) a.is ∙ append_assoc old (stuffed a.stretch) (stuffed (byte ∷ [])) ∙ ap (λ x. old ++ x) (sym (stuffed-append a.stretch (byte ∷ [])));
       digits = ap (λ x. x ++ bits_of held word) (byte_bits-append a.stretch (byte ∷ []) ∙ ap (λ x. byte_bits a.stretch ++ x) (append-nil (bits_of 8 byte))) ∙ append_assoc (byte_bits a.stretch) (bits_of 8 byte) (bits_of held word)
-        ∙ ap (λ x. byte_bits a.stretch ++ x) (sym split) ∙ a.digits;
+          ∙ ap (λ x. byte_bits a.stretch ++ x) (sym split) ∙ a.digits;
     }
 
 pub kept_all : (a : List ℕ) → KeepsFront a a
@@ -119,3 +120,7 @@ adds_none old word held none = record {
 -- ones as the code makes them
 pub shifted_ones : (size : ℕ) → size < 32 → bits_of size (1 * 2 ^ size % 2 ^ 32 - 1) ≡ replicate size true
 shifted_ones size h = ap (λ n. bits_of size (n - 1)) (one_shl size 32 h) ∙ all_ones size
+
+-- what is appended leaves the front
+pub kept_front : (a more : List ℕ) → KeepsFront a (a ++ more)
+kept_front a more = take-append_seam a more

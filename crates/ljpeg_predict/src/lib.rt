@@ -8,15 +8,17 @@ ghost use Rattle.ljpeg_predict.specs.Scans.{Scan as AnyScan, row_length};
 ghost use Rattle.ljpeg_predict.specs.Streams.{IsAnswer};
 ghost use Rattle.ljpeg_predict.specs.declared.JpegFault.{JpegFault as AnyFault};
 
+mod encoder;
 mod headers;
 mod lines;
 mod samples;
 mod scan;
 mod segments;
-mod writer;
 #[cfg(test)]
 mod tests;
+mod writer;
 
+pub use encoder::{EncodeFault, encode};
 use headers::read_headers;
 use ljpeg_huffman::BitFault;
 use samples::read_samples;

@@ -126,3 +126,18 @@ fn half_slope(sample: u16, corner: u16) -> u16
 {
     ((u32::from(sample) + 0x2_0000 - u32::from(corner)) / 2 % 0x1_0000) as u16
 }
+
+/// The prediction from the samples to the left, above, and above to the left.
+pub(crate) fn predict(predictor: Predictor, west: u16, north: u16, corner: u16) -> u16
+    ensures { result ≡ modulo (predicted predictor west north corner) }
+{
+    match predictor {
+        Predictor::Left => left(west, north, corner),
+        Predictor::Above => above_only(west, north, corner),
+        Predictor::AboveLeft => above_left(west, north, corner),
+        Predictor::Plane => plane(west, north, corner),
+        Predictor::LeftAndSlope => left_and_slope(west, north, corner),
+        Predictor::AboveAndSlope => above_and_slope(west, north, corner),
+        Predictor::Mean => mean(west, north, corner),
+    }
+}

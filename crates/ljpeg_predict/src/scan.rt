@@ -123,7 +123,7 @@ fn has_other_component(body: &[u8], ids: &[u8], components: u8) -> bool
 }
 
 /// The predictor of a selection value.
-fn read_predictor(selection: u8) -> Result<Predictor, JpegFault>
+pub(crate) fn read_predictor(selection: u8) -> Result<Predictor, JpegFault>
     ensures { result ≡ predictor_of selection }
 {
     match selection {
