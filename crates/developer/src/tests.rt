@@ -4,8 +4,9 @@ use crate::{Status, run};
 use raw_io::{MemFiles, MemSink, MemSource};
 use std::alloc::{AllocError, Global};
 use std::test::Fail;
-use test_frames::{bright_red, flat, patch};
+use test_frames::{TestFrame, bright_red, flat, patch};
 use tiff_dirs::Order;
+use tiff_write::{Field, Place};
 
 const ROOM: usize = 1 << 16;
 
@@ -124,7 +125,12 @@ fn is_refused(alloc: Global, file: &[u8], line: &[u8]) -> Result<bool, AllocErro
 }
 
 /// Whether the flat frame with other bytes from a place on is refused with a line.
-fn patched_is_refused(alloc: Global, at: usize, new: &[u8], line: &[u8]) -> Result<bool, AllocError> {
+fn patched_is_refused(
+    alloc: Global,
+    at: usize,
+    new: &[u8],
+    line: &[u8],
+) -> Result<bool, AllocError> {
     let mut file = flat_file(alloc)?;
     patch(&mut file, at, new);
     is_refused(alloc, &file, line)
@@ -166,11 +172,119 @@ fn frames_are_refused(rt: HostRuntime) -> Result<(), Fail> {
     assert!(rt; is_refused(alloc, &cut, b"refused Outside 0\n")?);
     assert!(rt; is_refused(alloc, b"", b"refused NotTiff\n")?);
     for (at, new, line) in [
-        (4, b"\xF0\xFF\xFF\xFF".as_slice(), b"refused BadDirectory 4294967280\n".as_slice()),
-        (8, b"\xFF\xFF".as_slice(), b"refused BadDirectory 8\n".as_slice()),
+        (
+            4,
+            b"\xF0\xFF\xFF\xFF".as_slice(),
+            b"refused BadDirectory 4294967280\n".as_slice(),
+        ),
+        (
+            8,
+            b"\xFF\xFF".as_slice(),
+            b"refused BadDirectory 8\n".as_slice(),
+        ),
     ] {
         assert!(rt; patched_is_refused(alloc, at, new, line)?, "at {at}");
     }
+    Ok(())
+}
+
+/// An entry of 16-bit numbers in place of the flat frame's, and the line that it is refused with.
+type Refusal = (u16, &'static [u16], &'static [u8]);
+
+fn refusals() -> [Refusal; 9] {
+    [
+        (254, &[1], b"refused NoRaw\n"),
+        (262, &[34892], b"refused Photometric 34892\n"),
+        (259, &[8], b"refused Compression 8\n"),
+        (259, &[7], b"refused NotYet\n"),
+        (258, &[32], b"refused Depth 32\n"),
+        (258, &[12], b"refused NotYet\n"),
+        (256, &[9000], b"refused Size\n"),
+        (278, &[0], b"refused Layout\n"),
+        (50717, &[4095], b"refused NotYet\n"),
+    ]
+}
+
+#[test]
+fn entries_are_refused_by_name(rt: HostRuntime) -> Result<(), Fail> {
+    let alloc = rt.alloc();
+    for (tag, numbers, line) in refusals() {
+        let frame = flat(alloc)?.with(Field::shorts(alloc, tag, numbers)?)?;
+        assert!(rt;
+            is_refused(alloc, &frame.bytes(alloc, Order::Little)?, line)?,
+            "{tag}"
+        );
+    }
+    let short = flat(alloc)?.with(Field::longs(alloc, 279, &[31])?)?;
+    let file = short.bytes(alloc, Order::Little)?;
+    assert!(rt; is_refused(alloc, &file, b"refused Segment 0 Short 32 31\n")?);
+    Ok(())
+}
+
+/// Whether the region of one pixel of a flat frame has the flat frame's reply.
+fn is_flat(alloc: Global, frame: TestFrame, order: Order) -> Result<bool, AllocError> {
+    let (status, bytes) = ran(alloc, &frame.bytes(alloc, order)?, b"region 0 0 1 1 ppm\n")?;
+    Ok(status == Status::Done && bytes.as_slice() == one_pixel())
+}
+
+#[test]
+fn a_frame_is_read_where_it_stands(rt: HostRuntime) -> Result<(), Fail> {
+    let alloc = rt.alloc();
+    assert!(rt; is_flat(alloc, flat(alloc)?, Order::Big)?);
+    assert!(rt; is_flat(alloc, flat(alloc)?.in_sub_directory(alloc)?, Order::Little)?);
+    let twice = flat(alloc)?.and(Field::shorts(alloc, 256, &[9])?)?;
+    assert!(rt; is_flat(alloc, twice, Order::Little)?);
+    Ok(())
+}
+
+/// The bright-red frame in strips of so many rows, from these places and of these lengths.
+fn in_strips(
+    alloc: Global,
+    rows: u16,
+    places: &[u32],
+    lengths: &[u32],
+) -> Result<TestFrame, AllocError> {
+    let mut offsets = Vec::new(alloc);
+    for place in places {
+        offsets.push(Place::Data(*place))?;
+    }
+    bright_red(alloc)?
+        .with(Field::shorts(alloc, 278, &[rows])?)?
+        .with(Field::places(alloc, 273, &offsets)?)?
+        .with(Field::longs(alloc, 279, lengths)?)
+}
+
+/// The bright-red frame as one tile of 16 by 16, whose padding is 65535.
+fn in_a_tile(alloc: Global) -> Result<TestFrame, AllocError> {
+    let mut samples = [65535; 256];
+    for row in 0..8 {
+        samples[16 * row..16 * row + 8].fill(0);
+    }
+    samples[16 * 4 + 4] = 1600;
+    bright_red(alloc)?
+        .with_samples(alloc, &samples)?
+        .with(Field::shorts(alloc, 322, &[16])?)?
+        .with(Field::shorts(alloc, 323, &[16])?)?
+        .with(Field::places(alloc, 324, &[Place::Data(0)])?)?
+        .with(Field::longs(alloc, 325, &[512])?)
+}
+
+/// The replies to two regions, which see the lower half of the bright-red frame twice.
+fn lower_half_twice() -> &'static [u8] {
+    b"image 19\nP6\n1 1\n65535\n\x06\x40\x03\x20\x04\xB0image 19\nP6\n1 1\n65535\n\x06\x40\x03\x20\x04\xB0"
+}
+
+#[test]
+fn segments_make_up_the_frame(rt: HostRuntime) -> Result<(), Fail> {
+    let alloc = rt.alloc();
+    let script = b"region 4 4 3 1 ppm\nregion 5 5 1 1 ppm\n".as_slice();
+    let strips = in_strips(alloc, 3, &[0, 48, 96], &[48, 48, 32])?.bytes(alloc, Order::Little)?;
+    assert_eq!(rt; ran(alloc, &strips, script)?.1.as_slice(), bright_pixels());
+    let tile = in_a_tile(alloc)?.bytes(alloc, Order::Little)?;
+    assert_eq!(rt; ran(alloc, &tile, script)?.1.as_slice(), bright_pixels());
+    let twice = in_strips(alloc, 4, &[64, 64], &[64, 64])?.bytes(alloc, Order::Little)?;
+    let bytes = ran(alloc, &twice, b"region 4 0 1 1 ppm\nregion 4 4 1 1 ppm\n")?.1;
+    assert_eq!(rt; bytes.as_slice(), lower_half_twice());
     Ok(())
 }
 
@@ -210,7 +324,10 @@ fn long_lines(rt: HostRuntime) -> Result<(), Fail> {
     script.resize(4096, b' ')?;
     assert_eq!(rt; ran(alloc, &file, &script)?.1.as_slice(), one_pixel());
     script.push(b' ')?;
-    assert_eq!(rt; ran(alloc, &file, &script)?.1.as_slice(), b"no yet\n".as_slice());
+    assert_eq!(rt;
+        ran(alloc, &file, &script)?.1.as_slice(),
+        b"no yet\n".as_slice()
+    );
     Ok(())
 }
 
