@@ -1,5 +1,5 @@
 pub mod Sums
 pub mod Pixels
 pub mod Inside
-pub mod Windows
+pub mod RowSamples
 pub mod BrightRed

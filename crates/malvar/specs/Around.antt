@@ -1,5 +1,6 @@
 -- What a filter reads round one pixel, apart from planes and rows: this project's own.
-use Rattle.std.specs.Prelude.{◌≡◌, ℕ, ◌≤◌, nat_eq, if◌then◌else◌, ℤ, pos, ◌+ℤ◌, ◌*ℤ◌, List, slice_index}
+use Rattle.std.specs.Prelude.{◌≡◌, ℕ, ◌+◌, ◌%◌, ◌≤◌, nat_eq, if◌then◌else◌, ℤ, pos, ◌+ℤ◌, ◌-ℤ◌, ◌*ℤ◌, List, slice_index}
+use Rattle.plane_view.specs.Reflect.{reflected}
 use Rattle.malvar.specs.Demosaic.{Weights, Table, rounded}
 use Rattle.malvar.specs.declared.filters.Around.{Around}
 use Rattle.malvar.specs.declared.filters.Site.{Site}
@@ -13,13 +14,13 @@ pub record IsAround (a : Around) : Type 0 where
   pub beside : a.beside ≤ 131070
   pub upright : a.upright ≤ 131070
   pub diagonal : a.diagonal ≤ 262140
-  pub beside_2 : a.beside_2 ≤ 131070
-  pub upright_2 : a.upright_2 ≤ 131070
+  pub beside_far : a.beside_far ≤ 131070
+  pub upright_far : a.upright_far ≤ 131070
 
 -- the weighted sum, in sixteenths
 abbrev pub weighted : Weights → Around → ℤ
 weighted w a =
-    w.centre *ℤ pos a.centre +ℤ w.beside *ℤ pos a.beside +ℤ w.upright *ℤ pos a.upright +ℤ w.diagonal *ℤ pos a.diagonal +ℤ w.beside_2 *ℤ pos a.beside_2 +ℤ w.upright_2 *ℤ pos a.upright_2
+    w.centre *ℤ pos a.centre +ℤ w.beside *ℤ pos a.beside +ℤ w.upright *ℤ pos a.upright +ℤ w.diagonal *ℤ pos a.diagonal +ℤ w.beside_2 *ℤ pos a.beside_far +ℤ w.upright_2 *ℤ pos a.upright_far
 
 -- the weights for a wanted colour at a pixel of another colour, by its own colour and that of its neighbour to the right
 abbrev pub weights_by : Table → ℕ → ℕ → ℕ → Weights
@@ -67,3 +68,23 @@ odd_site RedGreen = GreenByRed
 odd_site GreenRed = Red
 odd_site GreenBlue = Blue
 odd_site BlueGreen = GreenByBlue
+
+-- the site of column c of a row, by those of its even and its odd columns
+abbrev pub site_at : (even odd : Site) → ℕ → Site
+site_at even odd c = if nat_eq (c % 2) 0 then even else odd
+
+-- the sums at row r, column c, with these rows for the ones near it, and these columns
+abbrev pub around_in : (ℕ → ℕ → ℕ → ℕ) → (far_up up r down far_down far_left left c right far_right : ℕ) → Around
+around_in at far_up up r down far_down far_left left c right far_right = record {
+  centre = at r c 0;
+  beside = at r left 0 + at r right 0;
+  upright = at up c 0 + at down c 0;
+  diagonal = (at up left 0 + at up right 0) + (at down left 0 + at down right 0);
+  beside_far = at r far_left 0 + at r far_right 0;
+  upright_far = at far_up c 0 + at far_down c 0;
+}
+
+-- the sums at row r, column c of a plane of these rows and columns, as far away as the filters reach
+abbrev pub around_of : (reach rows cols : ℕ) → (ℕ → ℕ → ℕ → ℕ) → ℕ → ℕ → Around
+around_of reach rows cols at r c =
+    around_in at (reflected rows (pos r -ℤ pos reach)) (reflected rows (pos r -ℤ pos 1)) r (reflected rows (pos (r + 1))) (reflected rows (pos (r + reach))) (reflected cols (pos c -ℤ pos reach)) (reflected cols (pos c -ℤ pos 1)) c (reflected cols (pos (c + 1))) (reflected cols (pos (c + reach)))

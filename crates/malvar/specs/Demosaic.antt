@@ -1,7 +1,10 @@
--- Demosaicing by a table of weights (Malvar, He and Cutler, 2004, figure 2).
+-- Demosaicing by a table of weights: Malvar, He and Cutler (2004, figure 2), and the bilinear means. The rounding and the
+-- reflection at the edges are this project's own.
 use Rattle.std.specs.Prelude.{ℕ, ◌+◌, ◌/◌, nat_eq, min, if◌then◌else◌, ℤ, pos, negsuc, ◌+ℤ◌, ◌*ℤ◌, List}
 use Rattle.plane_view.specs.Plane.{Plane, sample, plane_of}
 use Rattle.plane_view.specs.Reflect.{reflected}
+use Rattle.malvar.specs.declared.Kind.{Kind}
+use Rattle.malvar.specs.declared.Kind.TheVariants.{Malvar, Bilinear}
 use Rattle.malvar.specs.Pattern.{colour_at}
 
 -- the weights of the samples round a pixel, in sixteenths
@@ -29,6 +32,25 @@ malvar = record {
   opposite = record { centre = pos 12; beside = pos 0; upright = pos 0; diagonal = pos 4; beside_2 = negsuc 2; upright_2 = negsuc 2 };
 }
 
+-- the means of the nearest samples of the wanted colour
+abbrev pub bilinear : Table
+bilinear = record {
+  green = record { centre = pos 0; beside = pos 4; upright = pos 4; diagonal = pos 0; beside_2 = pos 0; upright_2 = pos 0 };
+  in_row = record { centre = pos 0; beside = pos 8; upright = pos 0; diagonal = pos 0; beside_2 = pos 0; upright_2 = pos 0 };
+  in_column = record { centre = pos 0; beside = pos 0; upright = pos 8; diagonal = pos 0; beside_2 = pos 0; upright_2 = pos 0 };
+  opposite = record { centre = pos 0; beside = pos 0; upright = pos 0; diagonal = pos 4; beside_2 = pos 0; upright_2 = pos 0 };
+}
+
+-- the table of a kind
+abbrev pub table_of : Kind → Table
+table_of Malvar = malvar
+table_of Bilinear = bilinear
+
+-- how many rows and columns away a kind reads samples
+abbrev pub reach_of : Kind → ℕ
+reach_of Malvar = 2
+reach_of Bilinear = 1
+
 -- the weights for a wanted colour at row r, column c, which has another colour
 abbrev pub weights_at : Table → List ℕ → ℕ → ℕ → ℕ → Weights
 weights_at table cfa r c wanted =
@@ -37,19 +59,49 @@ weights_at table cfa r c wanted =
     then (if nat_eq (colour_at cfa r (c + 1)) wanted then table.in_row else table.in_column)
     else table.opposite
 
--- the sample so many rows down and columns right of row r, column c, reflected at the plane's edges
-abbrev pub near : Plane → ℕ → ℕ → ℤ → ℤ → ℤ
-near P r c down right = pos (sample P (reflected P.rows (pos r +ℤ down)) (reflected P.cols (pos c +ℤ right)) 0)
+-- steps from a pixel to one near it
+abbrev pub here : ℤ
+here = pos 0
+
+abbrev pub up_1 : ℤ
+up_1 = negsuc 0
+
+abbrev pub up_2 : ℤ
+up_2 = negsuc 1
+
+abbrev pub down_1 : ℤ
+down_1 = pos 1
+
+abbrev pub down_2 : ℤ
+down_2 = pos 2
+
+abbrev pub left_1 : ℤ
+left_1 = negsuc 0
+
+abbrev pub left_2 : ℤ
+left_2 = negsuc 1
+
+abbrev pub right_1 : ℤ
+right_1 = pos 1
+
+abbrev pub right_2 : ℤ
+right_2 = pos 2
+
+-- the sample so many steps down and to the right of row r, column c of a plane of these rows and columns, whose sample at a
+-- place is at r c p: reflected at the plane's edges
+abbrev pub near : (rows cols : ℕ) → (ℕ → ℕ → ℕ → ℕ) → ℕ → ℕ → ℤ → ℤ → ℤ
+near rows cols at r c down right = pos (at (reflected rows (pos r +ℤ down)) (reflected cols (pos c +ℤ right)) 0)
 
 -- the weighted sum round row r, column c, in sixteenths
-abbrev pub weighted_sum : Plane → ℕ → ℕ → Weights → ℤ
-weighted_sum P r c w =
-    w.centre *ℤ near P r c (pos 0) (pos 0)
-    +ℤ w.beside *ℤ (near P r c (pos 0) (negsuc 0) +ℤ near P r c (pos 0) (pos 1))
-    +ℤ w.upright *ℤ (near P r c (negsuc 0) (pos 0) +ℤ near P r c (pos 1) (pos 0))
-    +ℤ w.diagonal *ℤ (near P r c (negsuc 0) (negsuc 0) +ℤ near P r c (negsuc 0) (pos 1) +ℤ near P r c (pos 1) (negsuc 0) +ℤ near P r c (pos 1) (pos 1))
-    +ℤ w.beside_2 *ℤ (near P r c (pos 0) (negsuc 1) +ℤ near P r c (pos 0) (pos 2))
-    +ℤ w.upright_2 *ℤ (near P r c (negsuc 1) (pos 0) +ℤ near P r c (pos 2) (pos 0))
+abbrev pub weighted_sum : (rows cols : ℕ) → (ℕ → ℕ → ℕ → ℕ) → ℕ → ℕ → Weights → ℤ
+weighted_sum rows cols at r c w =
+    let step : ℤ → ℤ → ℤ = near rows cols at r c in
+    w.centre *ℤ step here here
+    +ℤ w.beside *ℤ (step here left_1 +ℤ step here right_1)
+    +ℤ w.upright *ℤ (step up_1 here +ℤ step down_1 here)
+    +ℤ w.diagonal *ℤ (step up_1 left_1 +ℤ step up_1 right_1 +ℤ (step down_1 left_1 +ℤ step down_1 right_1))
+    +ℤ w.beside_2 *ℤ (step here left_2 +ℤ step here right_2)
+    +ℤ w.upright_2 *ℤ (step up_2 here +ℤ step down_2 here)
 
 -- sixteenths as a whole number, rounded down, and held within 0 and 65535
 abbrev pub clipped : ℤ → ℕ
@@ -61,12 +113,12 @@ abbrev pub rounded : ℤ → ℕ
 rounded s = clipped (s +ℤ pos 8)
 
 -- the sample of a wanted colour at row r, column c
-abbrev pub demosaiced_at : Table → List ℕ → Plane → ℕ → ℕ → ℕ → ℕ
-demosaiced_at table cfa P r c wanted =
+abbrev pub demosaiced_at : Table → List ℕ → (rows cols : ℕ) → (ℕ → ℕ → ℕ → ℕ) → ℕ → ℕ → ℕ → ℕ
+demosaiced_at table cfa rows cols at r c wanted =
     if nat_eq (colour_at cfa r c) wanted
-    then sample P r c 0
-    else rounded (weighted_sum P r c (weights_at table cfa r c wanted))
+    then at r c 0
+    else rounded (weighted_sum rows cols at r c (weights_at table cfa r c wanted))
 
 -- the demosaiced plane: red, green and blue of each pixel
 abbrev pub demosaiced : Table → List ℕ → Plane → Plane
-demosaiced table cfa P = plane_of P.rows P.cols 3 (demosaiced_at table cfa P)
+demosaiced table cfa P = plane_of P.rows P.cols 3 (demosaiced_at table cfa P.rows P.cols (sample P))

@@ -1,76 +1,78 @@
--- A row of pixels with the two rows above and below it: this project's own.
-use Rattle.std.specs.Prelude.{◌≡◌, ℕ, ◌+◌, ◌*◌, ◌%◌, ◌<◌, ◌≤◌, nat_eq, if◌then◌else◌, ℤ, pos, negsuc, ◌+ℤ◌, List, length, slice_index, slice_set}
-use Rattle.plane_view.specs.Plane.{Plane, sample}
+-- A row of pixels, from rows of samples: this project's own.
+use Rattle.std.specs.Prelude.{◌≡◌, ℕ, ◌+◌, ◌-◌, ◌*◌, ◌<◌, ◌≤◌, min, pos, ◌-ℤ◌, List, length, slice_index, slice_set}
 use Rattle.plane_view.specs.Reflect.{reflected}
-use Rattle.malvar.specs.Demosaic.{malvar}
-use Rattle.malvar.specs.Around.{own_colour, next_colour, sample_by}
+use Rattle.plane_view.specs.Lent.{Lent, IsRun}
+use Rattle.malvar.specs.declared.Kind.{Kind}
+use Rattle.malvar.specs.Demosaic.{table_of, reach_of}
+use Rattle.malvar.specs.Around.{own_colour, next_colour, sample_by, site_at}
 use Rattle.malvar.specs.declared.filters.Around.{Around}
 use Rattle.malvar.specs.declared.filters.Site.{Site}
 use Rattle.malvar.specs.declared.rows.Window.{Window}
 
--- five rows of n samples
-pub record IsWindow (w : Window) (n : ℕ) : Type 0 where
-  pub up_2 : length w.up_2.now ≡ n
-  pub up : length w.up.now ≡ n
-  pub here : length w.here.now ≡ n
-  pub down : length w.down.now ≡ n
-  pub down_2 : length w.down_2.now ≡ n
-
 -- how many samples each row has
-abbrev pub cols_of : Window → ℕ
-cols_of w = length w.here.now
+abbrev pub count_of : Window → ℕ
+count_of w = length w.here.now
 
--- the sums at column c, with these columns for the two on its left and the two on its right
-abbrev pub around_by : Window → (left_2 left c right right_2 : ℕ) → Around
-around_by w left_2 left c right right_2 = record {
+-- five rows of as many samples
+pub record IsWindow (w : Window) : Type 0 where
+  pub far_up : length w.far_up.now ≡ count_of w
+  pub up : length w.up.now ≡ count_of w
+  pub down : length w.down.now ≡ count_of w
+  pub far_down : length w.far_down.now ≡ count_of w
+  pub some_cols : 4 ≤ w.cols
+  pub cols : w.cols ≤ 8192
+
+-- the window has the columns up to so far away from those from one up to another, but for those outside the plane
+pub record Spans (reach : ℕ) (w : Window) (from to : ℕ) : Type 0 where
+  pub low : w.left ≤ from - reach
+  pub order : from ≤ to
+  pub within : to ≤ w.cols
+  pub high : min (to + reach) w.cols ≤ w.left + count_of w
+
+-- the sums at place c of each row, with these places for the ones on its left and on its right
+abbrev pub around_by : Window → (far_left left c right far_right : ℕ) → Around
+around_by w far_left left c right far_right = record {
   centre = slice_index w.here.now c;
   beside = slice_index w.here.now left + slice_index w.here.now right;
   upright = slice_index w.up.now c + slice_index w.down.now c;
   diagonal = (slice_index w.up.now left + slice_index w.up.now right) + (slice_index w.down.now left + slice_index w.down.now right);
-  beside_2 = slice_index w.here.now left_2 + slice_index w.here.now right_2;
-  upright_2 = slice_index w.up_2.now c + slice_index w.down_2.now c;
+  beside_far = slice_index w.here.now far_left + slice_index w.here.now far_right;
+  upright_far = slice_index w.far_up.now c + slice_index w.far_down.now c;
 }
 
--- the sums at column c of n, columns outside being reflected
-abbrev pub around_at : Window → ℕ → ℕ → Around
-around_at w n c =
-    around_by w (reflected n (pos c +ℤ negsuc 1)) (reflected n (pos c +ℤ negsuc 0)) c (reflected n (pos c +ℤ pos 1)) (reflected n (pos c +ℤ pos 2))
+-- the sums at column c, columns outside the plane being reflected
+abbrev pub around_at : ℕ → Window → ℕ → Around
+around_at reach w c =
+    around_by w (reflected w.cols (pos c -ℤ pos reach) - w.left) (reflected w.cols (pos c -ℤ pos 1) - w.left) (c - w.left) (reflected w.cols (pos (c + 1)) - w.left) (reflected w.cols (pos (c + reach)) - w.left)
 
--- the sample of a wanted colour at column c of n, where the even columns are sites of one kind and the odd ones of another
-abbrev pub row_sample : (even odd : Site) → Window → ℕ → ℕ → ℕ → ℕ
-row_sample even odd w n c wanted =
-    let site = if nat_eq (c % 2) 0 then even else odd in
-    sample_by malvar (own_colour site) (next_colour site) (around_at w n c) wanted
+-- the sample of a wanted colour at column c, where the even columns are sites of one kind and the odd ones of another
+abbrev pub row_sample : Kind → (even odd : Site) → Window → ℕ → ℕ → ℕ
+row_sample kind even odd w c wanted =
+    let site = site_at even odd c in
+    sample_by (table_of kind) (own_colour site) (next_colour site) (around_at (reach_of kind) w c) wanted
 
--- the pixels from one column up to another have these samples
-abbrev pub HasPixels : (ℕ → ℕ → ℕ) → List ℕ → ℕ → ℕ → Type 0
-HasPixels f xs from to = (c p : ℕ) → from ≤ c → c < to → p < 3 → slice_index xs (c * 3 + p) ≡ f c p
+-- the pixels from one column up to another have these samples, in a row that begins with column `first`
+abbrev pub HasPixels : (ℕ → ℕ → ℕ) → ℕ → List ℕ → ℕ → ℕ → Type 0
+HasPixels f first xs from to = (c p : ℕ) → from ≤ c → c < to → p < 3 → slice_index xs ((c - first) * 3 + p) ≡ f c p
 
 -- the pixels from one column up to another are developed
-abbrev pub HasColumns : (even odd : Site) → Window → List ℕ → ℕ → ℕ → Type 0
-HasColumns even odd w xs from to = HasPixels (row_sample even odd w (cols_of w)) xs from to
+abbrev pub HasColumns : Kind → (even odd : Site) → Window → ℕ → List ℕ → ℕ → ℕ → Type 0
+HasColumns kind even odd w first xs from to = HasPixels (row_sample kind even odd w) first xs from to
 
--- a row whose pixel at column c is written
+-- a row whose pixel k is written
 abbrev pub with_pixel : List ℕ → ℕ → List ℕ → List ℕ
-with_pixel xs c pixel =
-    slice_set (slice_set (slice_set xs (c * 3) (slice_index pixel 0)) (c * 3 + 1) (slice_index pixel 1)) (c * 3 + 2) (slice_index pixel 2)
+with_pixel xs k pixel =
+    slice_set (slice_set (slice_set xs (k * 3) (slice_index pixel 0)) (k * 3 + 1) (slice_index pixel 1)) (k * 3 + 2) (slice_index pixel 2)
 
--- the pixels below a column are the same
+-- the pixels below pixel k are the same
 abbrev pub SameBelow : List ℕ → List ℕ → ℕ → Type 0
-SameBelow xs ys c = (k : ℕ) → k < c * 3 → slice_index ys k ≡ slice_index xs k
+SameBelow xs ys k = (i : ℕ) → i < k * 3 → slice_index ys i ≡ slice_index xs i
 
--- the samples of a row of a plane, reflected if it is outside
-abbrev pub IsRow : List ℕ → Plane → ℤ → Type 0
-IsRow xs P r = (c : ℕ) → c < P.cols → slice_index xs c ≡ sample P (reflected P.rows r) c 0
-
--- the row r of a plane, and the two rows above and below it
-pub record IsWindowOf (w : Window) (P : Plane) (r : ℕ) : Type 0 where
-  pub up_2 : IsRow w.up_2.now P (pos r +ℤ negsuc 1)
-  pub up : IsRow w.up.now P (pos r +ℤ negsuc 0)
-  pub here : IsRow w.here.now P (pos r +ℤ pos 0)
-  pub down : IsRow w.down.now P (pos r +ℤ pos 1)
-  pub down_2 : IsRow w.down_2.now P (pos r +ℤ pos 2)
-
--- a plane of one sample a pixel
-abbrev pub single : (rows cols : ℕ) → List ℕ → Plane
-single rows cols samples = record { rows = rows; cols = cols; planes = 1; samples = samples }
+-- the window has row r of a lent part, of a plane of so many rows, and the rows that are next to it and so far from it:
+-- reflected where they are outside the plane
+pub record IsWindowOf (reach : ℕ) (w : Window) (L : Lent) (rows r : ℕ) : Type 0 where
+  pub far_up : IsRun w.far_up.now L (reflected rows (pos r -ℤ pos reach)) w.left (w.left + count_of w)
+  pub up : IsRun w.up.now L (reflected rows (pos r -ℤ pos 1)) w.left (w.left + count_of w)
+  pub here : IsRun w.here.now L r w.left (w.left + count_of w)
+  pub down : IsRun w.down.now L (reflected rows (pos (r + 1))) w.left (w.left + count_of w)
+  pub far_down : IsRun w.far_down.now L (reflected rows (pos (r + reach))) w.left (w.left + count_of w)

@@ -1,7 +1,10 @@
-//! The four filters of Malvar, He and Cutler (2004, figure 2), on sums of samples round one pixel.
+//! The filters of each kind, on sums of samples round one pixel: those of Malvar, He and Cutler (2004, figure 2), and means
+//! of the nearest samples.
 
 ghost use Rattle.std.specs.Prelude.{◌≡◌, ◌<◌, ◌^◌, pos, ◌-ℤ◌};
-ghost use Rattle.malvar.specs.Demosaic.{malvar, rounded};
+ghost use Rattle.malvar.specs.Demosaic.{rounded, table_of};
+
+use crate::Kind;
 
 /// The samples round a pixel, summed by where they stand.
 #[derive(Clone, Copy)]
@@ -13,10 +16,10 @@ pub(crate) struct Around {
     pub(crate) upright: u32,
     /// The four diagonal ones.
     pub(crate) diagonal: u32,
-    /// Left and right by 2.
-    pub(crate) beside_2: u32,
-    /// Up and down by 2.
-    pub(crate) upright_2: u32,
+    /// Left and right, as far away as the filters reach.
+    pub(crate) beside_far: u32,
+    /// Up and down, as far away as the filters reach.
+    pub(crate) upright_far: u32,
 }
 
 /// What a pixel's own colour is, and which colour stands left and right of it.
@@ -51,50 +54,62 @@ impl Around {
 
     /// Green at red or blue.
     #[inline(always)]
-    fn green(self) -> u16
+    fn green(self, kind: Kind) -> u16
         requires { IsAround self }
-        ensures { result ≡ rounded (weighted malvar.green self) }
+        ensures { result ≡ rounded (weighted (table_of kind).green self) }
     {
-        scaled(
-            8 * self.centre + 4 * (self.beside + self.upright),
-            2 * (self.beside_2 + self.upright_2),
-        )
+        match kind {
+            Kind::Malvar => scaled(
+                8 * self.centre + 4 * (self.beside + self.upright),
+                2 * (self.beside_far + self.upright_far),
+            ),
+            Kind::Bilinear => scaled(4 * (self.beside + self.upright), 0),
+        }
     }
 
     /// Red or blue at green, that colour left and right.
     #[inline(always)]
-    fn in_row(self) -> u16
+    fn in_row(self, kind: Kind) -> u16
         requires { IsAround self }
-        ensures { result ≡ rounded (weighted malvar.in_row self) }
+        ensures { result ≡ rounded (weighted (table_of kind).in_row self) }
     {
-        scaled(
-            10 * self.centre + 8 * self.beside + self.upright_2,
-            2 * (self.diagonal + self.beside_2),
-        )
+        match kind {
+            Kind::Malvar => scaled(
+                10 * self.centre + 8 * self.beside + self.upright_far,
+                2 * (self.diagonal + self.beside_far),
+            ),
+            Kind::Bilinear => scaled(8 * self.beside, 0),
+        }
     }
 
     /// Red or blue at green, that colour up and down.
     #[inline(always)]
-    fn in_column(self) -> u16
+    fn in_column(self, kind: Kind) -> u16
         requires { IsAround self }
-        ensures { result ≡ rounded (weighted malvar.in_column self) }
+        ensures { result ≡ rounded (weighted (table_of kind).in_column self) }
     {
-        scaled(
-            10 * self.centre + 8 * self.upright + self.beside_2,
-            2 * (self.diagonal + self.upright_2),
-        )
+        match kind {
+            Kind::Malvar => scaled(
+                10 * self.centre + 8 * self.upright + self.beside_far,
+                2 * (self.diagonal + self.upright_far),
+            ),
+            Kind::Bilinear => scaled(8 * self.upright, 0),
+        }
     }
 
     /// Red at blue, blue at red.
     #[inline(always)]
-    fn opposite(self) -> u16
+    fn opposite(self, kind: Kind) -> u16
         requires { IsAround self }
-        ensures { result ≡ rounded (weighted malvar.opposite self) }
+        ensures { result ≡ rounded (weighted (table_of kind).opposite self) }
     {
-        scaled(
-            12 * self.centre + 4 * self.diagonal,
-            3 * (self.beside_2 + self.upright_2),
-        )
+        match kind {
+            Kind::Malvar => scaled(
+                12 * self.centre + 4 * self.diagonal,
+                3 * (self.beside_far + self.upright_far),
+            ),
+            Kind::Bilinear => scaled(4 * self.diagonal, 0),
+        }
     }
 }
 
@@ -103,49 +118,37 @@ impl Site {
 
     /// Red, green and blue of a pixel.
     #[inline(always)]
-    pub(crate) fn pixel(self, around: Around) -> [u16; 3]
+    pub(crate) fn pixel(self, kind: Kind, around: Around) -> [u16; 3]
         requires { IsAround around }
-        ensures { IsPixel (sample_by malvar (own_colour self) (next_colour self) around) result }
+        ensures { IsPixel (sample_by (table_of kind) (own_colour self) (next_colour self) around) result }
     {
         let own = around.centre as u16;
         match self {
-            Site::Red => [own, around.green(), around.opposite()],
-            Site::GreenByRed => [around.in_row(), own, around.in_column()],
-            Site::GreenByBlue => [around.in_column(), own, around.in_row()],
-            Site::Blue => [around.opposite(), around.green(), own],
+            Site::Red => [own, around.green(kind), around.opposite(kind)],
+            Site::GreenByRed => [around.in_row(kind), own, around.in_column(kind)],
+            Site::GreenByBlue => [around.in_column(kind), own, around.in_row(kind)],
+            Site::Blue => [around.opposite(kind), around.green(kind), own],
         }
     }
 }
 
 impl RowSites {
-    ghost use Rattle.malvar.specs.Around.{even_site, odd_site, own_colour, next_colour};
-    ghost use Rattle.malvar.specs.Pattern.{IsBeside};
+    ghost use Rattle.malvar.specs.Around.{even_site, odd_site, site_at};
 
-    /// The row that begins with these two colours.
-    pub(crate) fn new(first: u8, second: u8) -> Self
-        requires { IsBeside first second }
-        ensures even { own_colour (even_site result) ≡ first }
-        ensures even_next { next_colour (even_site result) ≡ second }
-        ensures odd { own_colour (odd_site result) ≡ second }
-        ensures odd_next { next_colour (odd_site result) ≡ first }
+    /// The site of column `c`.
+    pub(crate) fn site(self, c: usize) -> Site
+        ensures { result ≡ site_at (even_site self) (odd_site self) c }
     {
-        match (first, second) {
-            (0, _) => RowSites::RedGreen,
-            (2, _) => RowSites::BlueGreen,
-            (_, 0) => RowSites::GreenRed,
-            _ => RowSites::GreenBlue,
-        }
-    }
-
-    /// The sites of the even and of the odd columns.
-    pub(crate) fn pair(self) -> (Site, Site)
-        ensures { result ≡ (even_site self, odd_site self) }
-    {
+        let even = c % 2 == 0;
         match self {
-            RowSites::RedGreen => (Site::Red, Site::GreenByRed),
-            RowSites::GreenRed => (Site::GreenByRed, Site::Red),
-            RowSites::GreenBlue => (Site::GreenByBlue, Site::Blue),
-            RowSites::BlueGreen => (Site::Blue, Site::GreenByBlue),
+            RowSites::RedGreen if even => Site::Red,
+            RowSites::RedGreen => Site::GreenByRed,
+            RowSites::GreenRed if even => Site::GreenByRed,
+            RowSites::GreenRed => Site::Red,
+            RowSites::GreenBlue if even => Site::GreenByBlue,
+            RowSites::GreenBlue => Site::Blue,
+            RowSites::BlueGreen if even => Site::Blue,
+            RowSites::BlueGreen => Site::GreenByBlue,
         }
     }
 }

@@ -1,23 +1,30 @@
 //! One row of pixels, from five rows of samples.
 
-ghost use Rattle.std.specs.Prelude.{◌≡◌, ◌+◌, ◌*◌, ◌<◌, ◌≤◌, slice_index, length};
+ghost use Rattle.std.specs.Prelude.{◌≡◌, ◌+◌, ◌-◌, ◌*◌, ◌%◌, ◌<◌, ◌≤◌, slice_index, length, pos, negsuc, ◌≤ℤ◌};
+ghost use Rattle.plane_view.specs.Reflect.{reflected};
+ghost use Rattle.malvar.specs.Demosaic.{reach_of};
 ghost use Rattle.malvar.specs.Around.{IsAround, even_site, odd_site};
-ghost use Rattle.malvar.specs.Rows.{IsWindow, cols_of, around_by, around_at, with_pixel, HasColumns, SameBelow};
+ghost use Rattle.malvar.specs.Rows.{IsWindow, Spans, count_of, around_by, around_at, with_pixel, HasColumns, SameBelow};
 
+use crate::Kind;
 use crate::filters::{Around, RowSites, Site};
 use plane_view::reflect;
 
-/// A row of samples, and the two rows above and below it. All are equally long.
+/// A row of samples, the rows next to it, and those as far from it as the filters reach. All are equally long.
 #[derive(Clone, Copy)]
 pub(crate) struct Window<'a> {
-    pub(crate) up_2: &'a [u16],
+    pub(crate) far_up: &'a [u16],
     pub(crate) up: &'a [u16],
     pub(crate) here: &'a [u16],
     pub(crate) down: &'a [u16],
-    pub(crate) down_2: &'a [u16],
+    pub(crate) far_down: &'a [u16],
+    /// The column of the first samples.
+    pub(crate) left: usize,
+    /// How many columns the plane has.
+    pub(crate) cols: u32,
 }
 
-/// The sum of the samples at two columns of a row.
+/// The sum of the samples at two places of a row.
 #[inline(always)]
 fn sum_of(row: &[u16], left: usize, right: usize) -> u32
     requires left { left < length row.now }
@@ -29,23 +36,23 @@ fn sum_of(row: &[u16], left: usize, right: usize) -> u32
 }
 
 impl Window<'_> {
-    /// The sums at column `c`, with these columns for the two on its left and the two on its right.
+    /// The sums at place `c` of each row, with these places for the ones on its left and on its right.
     #[inline(always)]
     fn around_by(
         &self,
-        left_2: usize,
+        far_left: usize,
         left: usize,
         c: usize,
         right: usize,
-        right_2: usize,
+        far_right: usize,
     ) -> Around
-        requires rows { IsWindow self.now (cols_of self.now) }
-        requires left_2 { left_2 < cols_of self.now }
-        requires left { left < cols_of self.now }
-        requires c { c < cols_of self.now }
-        requires right { right < cols_of self.now }
-        requires right_2 { right_2 < cols_of self.now }
-        ensures sums { result ≡ around_by self.now left_2 left c right right_2 }
+        requires rows { IsWindow self.now }
+        requires far_left { far_left < count_of self.now }
+        requires left { left < count_of self.now }
+        requires c { c < count_of self.now }
+        requires right { right < count_of self.now }
+        requires far_right { far_right < count_of self.now }
+        ensures sums { result ≡ around_by self.now far_left left c right far_right }
         ensures small { IsAround result }
     {
         Around {
@@ -53,109 +60,171 @@ impl Window<'_> {
             beside: sum_of(self.here, left, right),
             upright: u32::from(self.up[c]) + u32::from(self.down[c]),
             diagonal: sum_of(self.up, left, right) + sum_of(self.down, left, right),
-            beside_2: sum_of(self.here, left_2, right_2),
-            upright_2: u32::from(self.up_2[c]) + u32::from(self.down_2[c]),
+            beside_far: sum_of(self.here, far_left, far_right),
+            upright_far: u32::from(self.far_up[c]) + u32::from(self.far_down[c]),
         }
     }
 
-    /// The sums at column `c`, columns outside the rows being reflected.
-    fn around_at(&self, c: usize) -> Around
-        requires rows { IsWindow self.now (cols_of self.now) }
-        requires cols { 4 ≤ cols_of self.now × cols_of self.now ≤ 8192 }
-        requires c { c < cols_of self.now }
-        ensures sums { result ≡ around_at self.now (cols_of self.now) c }
+    /// The place of column `i`, which is reflected if it is outside the plane.
+    fn place(&self, i: i64) -> usize
+        requires size { 4 ≤ self.now.cols }
+        requires low { negsuc 1 ≤ℤ i }
+        requires high { i ≤ℤ pos (self.now.cols + 1) }
+        requires has { self.now.left ≤ reflected self.now.cols i }
+        ensures { result ≡ reflected self.now.cols i - self.now.left }
+    {
+        reflect(i, self.cols) as usize - self.left
+    }
+
+    /// The sums at column `c`, columns outside the plane being reflected.
+    fn around_at(&self, kind: Kind, c: usize) -> Around
+        requires rows { IsWindow self.now }
+        requires spans { Spans (reach_of kind) self.now c (c + 1) }
+        ensures sums { result ≡ around_at (reach_of kind) self.now c }
         ensures small { IsAround result }
     {
-        let n = self.here.len() as u32;
         let i = c as i64;
+        let reach = i64::from(kind.reach());
         self.around_by(
-            reflect(i - 2, n) as usize,
-            reflect(i - 1, n) as usize,
-            c,
-            reflect(i + 1, n) as usize,
-            reflect(i + 2, n) as usize,
+            self.place(i - reach),
+            self.place(i - 1),
+            c - self.left,
+            self.place(i + 1),
+            self.place(i + reach),
         )
     }
 }
 
-/// Writes the pixel at column `c`.
+/// Writes pixel `k` of a row.
 #[inline(always)]
-fn put(out: &mut [u16], c: usize, pixel: [u16; 3])
-    requires { c * 3 + 3 ≤ length out.old }
-    ensures { out.new ≡ with_pixel out.old c pixel }
+fn put(out: &mut [u16], k: usize, pixel: [u16; 3])
+    requires { k * 3 + 3 ≤ length out.old }
+    ensures { out.new ≡ with_pixel out.old k pixel }
 {
-    let at = c * 3;
+    let at = k * 3;
     out[at] = pixel[0];
     out[at + 1] = pixel[1];
     out[at + 2] = pixel[2];
 }
 
-/// Develops the columns from `from` up to `to`, reflecting columns outside the rows. The even columns are sites of one
-/// kind, and the odd columns of another.
-fn fill_reflecting(window: &Window, even: Site, odd: Site, from: usize, to: usize, out: &mut [u16])
-    requires window { IsWindow window.now (cols_of window.now) }
-    requires cols { 4 ≤ cols_of window.now × cols_of window.now ≤ 8192 }
-    requires order { from ≤ to }
-    requires within { to ≤ cols_of window.now }
-    requires out { length out.old ≡ cols_of window.now * 3 }
-    ensures pixels { HasColumns even odd window.now out.new from to }
-    ensures before { SameBelow out.old out.new from }
+/// A row of pixels that is developed by pairs: the kind, the sites of its even and odd columns, and its first column.
+#[derive(Clone, Copy)]
+pub(crate) struct Row {
+    pub(crate) kind: Kind,
+    pub(crate) even: Site,
+    pub(crate) odd: Site,
+    pub(crate) first: usize,
+}
+
+/// Develops the columns from `from` up to `to`, reflecting columns outside the plane.
+fn fill_reflecting(window: &Window, sites: RowSites, kind: Kind, first: usize, from: usize, to: usize, out: &mut [u16])
+    requires window { IsWindow window.now }
+    requires spans { Spans (reach_of kind) window.now from to }
+    requires first { first ≤ from }
+    requires out { (to - first) * 3 ≤ length out.old }
+    ensures pixels { HasColumns kind (even_site sites) (odd_site sites) window.now first out.new from to }
+    ensures before { SameBelow out.old out.new (from - first) }
 {
     for c in from..to {
-        let site = if c % 2 == 0 { even } else { odd };
-        put(out, c, site.pixel(window.around_at(c)));
+        put(out, c - first, sites.site(c).pixel(kind, window.around_at(kind, c)));
     }
 }
 
-/// Develops so many pairs of columns from column 2 on, whose neighbours all lie in the rows.
+/// Develops so many pairs of columns from the even column `from` on, whose neighbours all lie in the plane.
 #[inline(always)]
-fn fill_pairs(window: &Window, even: Site, odd: Site, pairs: usize, out: &mut [u16])
-    requires window { IsWindow window.now (cols_of window.now) }
-    requires cols { cols_of window.now ≤ 8192 }
-    requires within { pairs * 2 + 4 ≤ cols_of window.now }
-    requires out { length out.old ≡ cols_of window.now * 3 }
-    ensures pixels { HasColumns even odd window.now out.new 2 (pairs * 2 + 2) }
-    ensures before { SameBelow out.old out.new 2 }
+fn fill_pairs(window: &Window, row: Row, from: usize, pairs: usize, out: &mut [u16])
+    requires window { IsWindow window.now }
+    requires spans { Spans (reach_of row.kind) window.now from (from + pairs * 2) }
+    requires even { from % 2 ≡ 0 }
+    requires low { reach_of row.kind ≤ from }
+    requires high { from + pairs * 2 + reach_of row.kind ≤ window.now.cols }
+    requires first { row.first ≤ from }
+    requires out { (from + pairs * 2 - row.first) * 3 ≤ length out.old }
+    ensures pixels { HasColumns row.kind row.even row.odd window.now row.first out.new from (from + pairs * 2) }
+    ensures before { SameBelow out.old out.new (from - row.first) }
 {
+    let reach = row.kind.reach() as usize;
+    let start = from - reach - window.left;
+    let pixel = from - row.first;
     for k in 0..pairs {
-        let left = k * 2;
-        let first = window.around_by(left, left + 1, left + 2, left + 3, left + 4);
-        let second = window.around_by(left + 1, left + 2, left + 3, left + 4, left + 5);
-        let first_pixel = even.pixel(first);
-        let second_pixel = odd.pixel(second);
-        put(out, left + 2, first_pixel);
-        put(out, left + 3, second_pixel);
+        let far_left = start + k * 2;
+        let c = far_left + reach;
+        let one = window.around_by(far_left, c - 1, c, c + 1, c + reach);
+        let two = window.around_by(far_left + 1, c, c + 1, c + 2, c + reach + 1);
+        let one_pixel = row.even.pixel(row.kind, one);
+        let two_pixel = row.odd.pixel(row.kind, two);
+        put(out, pixel + k * 2, one_pixel);
+        put(out, pixel + k * 2 + 1, two_pixel);
     }
 }
 
-/// Develops so many pairs of columns from column 2 on: one loop for each kind of row.
-fn fill_inside(window: &Window, sites: RowSites, pairs: usize, out: &mut [u16])
-    requires window { IsWindow window.now (cols_of window.now) }
-    requires cols { cols_of window.now ≤ 8192 }
-    requires within { pairs * 2 + 4 ≤ cols_of window.now }
-    requires out { length out.old ≡ cols_of window.now * 3 }
-    ensures pixels { HasColumns (even_site sites) (odd_site sites) window.now out.new 2 (pairs * 2 + 2) }
-    ensures before { SameBelow out.old out.new 2 }
+/// The same, by one loop for each kind of row.
+#[inline(always)]
+fn fill_sites(window: &Window, sites: RowSites, kind: Kind, first: usize, from: usize, pairs: usize, out: &mut [u16])
+    requires window { IsWindow window.now }
+    requires spans { Spans (reach_of kind) window.now from (from + pairs * 2) }
+    requires even { from % 2 ≡ 0 }
+    requires low { reach_of kind ≤ from }
+    requires high { from + pairs * 2 + reach_of kind ≤ window.now.cols }
+    requires first { first ≤ from }
+    requires out { (from + pairs * 2 - first) * 3 ≤ length out.old }
+    ensures pixels { HasColumns kind (even_site sites) (odd_site sites) window.now first out.new from (from + pairs * 2) }
+    ensures before { SameBelow out.old out.new (from - first) }
 {
     match sites {
-        RowSites::RedGreen => fill_pairs(window, Site::Red, Site::GreenByRed, pairs, out),
-        RowSites::GreenRed => fill_pairs(window, Site::GreenByRed, Site::Red, pairs, out),
-        RowSites::GreenBlue => fill_pairs(window, Site::GreenByBlue, Site::Blue, pairs, out),
-        RowSites::BlueGreen => fill_pairs(window, Site::Blue, Site::GreenByBlue, pairs, out),
+        RowSites::RedGreen => {
+            let row = Row { kind, even: Site::Red, odd: Site::GreenByRed, first };
+            fill_pairs(window, row, from, pairs, out);
+        }
+        RowSites::GreenRed => {
+            let row = Row { kind, even: Site::GreenByRed, odd: Site::Red, first };
+            fill_pairs(window, row, from, pairs, out);
+        }
+        RowSites::GreenBlue => {
+            let row = Row { kind, even: Site::GreenByBlue, odd: Site::Blue, first };
+            fill_pairs(window, row, from, pairs, out);
+        }
+        RowSites::BlueGreen => {
+            let row = Row { kind, even: Site::Blue, odd: Site::GreenByBlue, first };
+            fill_pairs(window, row, from, pairs, out);
+        }
     }
 }
 
-/// Develops a row.
-pub(crate) fn fill(window: &Window, sites: RowSites, out: &mut [u16])
-    requires window { IsWindow window.now (cols_of window.now) }
-    requires cols { 4 ≤ cols_of window.now × cols_of window.now ≤ 8192 }
-    requires out { length out.old ≡ cols_of window.now * 3 }
-    ensures { HasColumns (even_site sites) (odd_site sites) window.now out.new 0 (cols_of window.now) }
+/// The same, by loops of their own for each kind of demosaicing.
+fn fill_inside(window: &Window, sites: RowSites, kind: Kind, first: usize, from: usize, pairs: usize, out: &mut [u16])
+    requires window { IsWindow window.now }
+    requires spans { Spans (reach_of kind) window.now from (from + pairs * 2) }
+    requires even { from % 2 ≡ 0 }
+    requires low { reach_of kind ≤ from }
+    requires high { from + pairs * 2 + reach_of kind ≤ window.now.cols }
+    requires first { first ≤ from }
+    requires out { (from + pairs * 2 - first) * 3 ≤ length out.old }
+    ensures pixels { HasColumns kind (even_site sites) (odd_site sites) window.now first out.new from (from + pairs * 2) }
+    ensures before { SameBelow out.old out.new (from - first) }
 {
-    let cols = window.here.len();
-    let pairs = (cols - 4) / 2;
-    let (even, odd) = sites.pair();
-    fill_reflecting(window, even, odd, 0, 2, out);
-    fill_inside(window, sites, pairs, out);
-    fill_reflecting(window, even, odd, pairs * 2 + 2, cols, out);
+    match kind {
+        Kind::Malvar => fill_sites(window, sites, Kind::Malvar, first, from, pairs, out),
+        Kind::Bilinear => fill_sites(window, sites, Kind::Bilinear, first, from, pairs, out),
+    }
+}
+
+/// Develops the columns from `first` up to `to`.
+pub(crate) fn fill(window: &Window, sites: RowSites, kind: Kind, first: usize, to: usize, out: &mut [u16])
+    requires window { IsWindow window.now }
+    requires spans { Spans (reach_of kind) window.now first to }
+    requires out { length out.old ≡ (to - first) * 3 }
+    ensures { HasColumns kind (even_site sites) (odd_site sites) window.now first out.new first to }
+{
+    let reach = kind.reach() as usize;
+    let from = (first.max(reach) + 1) / 2 * 2;
+    let upto = to.min(window.cols as usize - reach);
+    if upto < from {
+        fill_reflecting(window, sites, kind, first, first, to, out);
+        return;
+    }
+    let pairs = (upto - from) / 2;
+    fill_reflecting(window, sites, kind, first, first, from, out);
+    fill_inside(window, sites, kind, first, from, pairs, out);
+    fill_reflecting(window, sites, kind, first, from + pairs * 2, to, out);
 }

@@ -1,7 +1,9 @@
-use Rattle.std.proofs.Common.{◌+◌, ◌*◌, length}
+use Rattle.std.proofs.Common.{◌+◌, ◌-◌, ◌*◌}
 use Rattle.malvar.specs.Rows.{HasPixels, SameBelow, row_sample}
 use Rattle.malvar.proofs.rows.fill_pairs.Given as goal
 
 abbrev pub invariant-loop-k : goal.invariant-loop-k
-invariant-loop-k l =
-    record { pixels : HasPixels (row_sample l.even l.odd l.window (length l.window.here.now)) l.out 2 (l.k * 2 + 2); before : SameBelow l.initial.out l.out 2 }
+invariant-loop-k l = record {
+  pixels : HasPixels (row_sample l.row.kind l.row.even l.row.odd l.window) l.row.first l.out l.from (l.from + l.k * 2);
+  before : SameBelow l.initial.out l.out (l.from - l.row.first);
+}

@@ -1,26 +1,34 @@
-use Rattle.std.proofs.Common.{◌≡◌, ◌+◌, ◌-◌, ◌*◌, ◌∙◌, ap, arith}
-use Rattle.malvar.specs.Around.{own_colour, next_colour, even_site, odd_site}
-use Rattle.malvar.specs.Pattern.{colour_at}
-use Rattle.malvar.specs.Rows.{single, row_sample}
-use Rattle.malvar.proofs.Windows.{row_sample_is}
-use Rattle.malvar.proofs.fill_row.Goals as goal
+use Rattle.std.proofs.Common.{◌≡◌, ◌+◌, ◌∙◌, ap, arith}
+use Rattle.plane_view.specs.Lent.{sample_at}
+use Rattle.malvar.specs.Around.{even_site, odd_site}
+use Rattle.malvar.specs.Demosaic.{demosaiced_at, table_of, reach_of}
+use Rattle.malvar.specs.Mosaics.{colours_of}
+use Rattle.malvar.specs.Sums.{reaches}
+use Rattle.malvar.specs.Rows.{Spans}
+use Rattle.plane_view.specs.declared.Rect.{Rect}
+use Rattle.plane_view.specs.Rectangles.{grown, whole_rect}
+use Rattle.malvar.proofs.RowSamples.{row_sample_is}
+use Rattle.malvar.proofs.windows.fill_row.Goals as goal
 
 pub returns : goal.returns
 returns c =
-    let P = single c.args.rows c.args.cols c.args.plane.now in
-    let window = c.window_of-window.result in
-    let even = even_site c.new-sites.result in
-    let odd = odd_site c.new-sites.result in
-    let cfa = c.args.cfa in
+    let kind = c.args.kind in
+    let whole = c.args.whole in
+    let L = c.args.input.now in
     let r = c.args.r in
-    let own : own_colour even ≡ colour_at cfa r 0 = grind arith in
-    let next : next_colour even ≡ colour_at cfa r 1 = grind arith in
-    let own' : own_colour odd ≡ colour_at cfa r 1 = grind arith in
-    let next' : next_colour odd ≡ colour_at cfa r 0 = grind arith in
+    let cfa = colours_of c.args.pattern in
+    let w = c.window_of-window.result in
+    let sites = c.sites.result in
+    let cols = c.window_of-window.ensures.cols in
+    let is_part : c.grow-part.result ≡ grown c.args.rect (reach_of kind) (whole_rect whole.rows whole.cols) =
+    c.grow-part.ensures.edges ∙ (λ i. grown c.args.rect (c.reach.ensures i) (c.rect.ensures i)) in
+    let left = ap (λ (x : Rect). x.left) is_part in
+    let right = ap (λ (x : Rect). x.right) is_part in
+    let reach = reaches kind in
     record {
       samples = λ k p pixel colour.
-          let at : (k - 0) * 3 + p ≡ k * 3 + p = omega arith in
-          rw at (c.fill.ensures k p (omega arith) (omega arith) colour)
-          ∙ ap (λ n. row_sample even odd window n k p) c.window_of-window.ensures.len.here
-          ∙ row_sample_is even odd window cfa P r k p (omega arith) (omega arith) pixel.right c.window_of-window.ensures.rows own next own' next';
+          let spans : Spans (reach_of kind) w k (k + 1) = record { low = omega arith; order = omega arith; within = omega arith; high = omega arith } in
+          c.fill.ensures k p pixel.left pixel.right colour
+          ∙ row_sample_is kind (even_site sites) (odd_site sites) w cfa L whole.rows r k p (omega arith) (omega arith) c.window_of-window.ensures.rows c.requires.planes spans c.sites.ensures.even c.sites.ensures.even_next c.sites.ensures.odd c.sites.ensures.odd_next
+          ∙ ap (λ n. demosaiced_at (table_of kind) cfa whole.rows n (sample_at L) r k p) cols;
     }

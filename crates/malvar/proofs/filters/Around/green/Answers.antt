@@ -3,5 +3,5 @@ use Rattle.malvar.specs.Demosaic.{rounded}
 use Rattle.malvar.proofs.Sums.{green_sum}
 use Rattle.malvar.proofs.filters.Around.green.Goals as goal
 
-pub returns : goal.returns
-returns c = c.scaled.ensures ∙ ap rounded (green_sum c.args.self)
+pub returns-in-Malvar : goal.returns-in-Malvar
+returns-in-Malvar c = rw c.in-Malvar.is (c.scaled.ensures ∙ ap rounded (green_sum c.args.self))

@@ -3,5 +3,5 @@ use Rattle.malvar.specs.Demosaic.{rounded}
 use Rattle.malvar.proofs.Sums.{opposite_sum}
 use Rattle.malvar.proofs.filters.Around.opposite.Goals as goal
 
-pub returns : goal.returns
-returns c = c.scaled.ensures ∙ ap rounded (opposite_sum c.args.self)
+pub returns-in-Malvar : goal.returns-in-Malvar
+returns-in-Malvar c = rw c.in-Malvar.is (c.scaled.ensures ∙ ap rounded (opposite_sum c.args.self))

@@ -1,0 +1,31 @@
+-- Demosaicing as a stage: this project's own.
+use Rattle.std.specs.Prelude.{◌≡◌, ℕ, ◌≤◌, List, [], ◌∷◌}
+use Rattle.plane_view.specs.declared.Shape.{Shape}
+use Rattle.malvar.specs.declared.Kind.{Kind}
+use Rattle.malvar.specs.declared.pattern.Pattern.{Pattern}
+use Rattle.malvar.specs.declared.pattern.Pattern.TheVariants.{RedGreenGreenBlue, BlueGreenGreenRed, GreenRedBlueGreen, GreenBlueRedGreen}
+use Rattle.malvar.specs.declared.stage.Demosaic.{Demosaic}
+
+-- planes of one colour a pixel that are large enough to be reflected
+pub record IsMosaic (s : Shape) : Type 0 where
+  pub planes : s.planes ≡ 1
+  pub rows : 4 ≤ s.rows
+  pub cols : 4 ≤ s.cols
+
+-- the shape of the demosaiced plane
+abbrev pub coloured : Shape → Shape
+coloured s = record { rows = s.rows; cols = s.cols; planes = 3 }
+
+-- the colours of a pattern
+abbrev pub colours_of : Pattern → List ℕ
+colours_of RedGreenGreenBlue = 0 ∷ 1 ∷ 1 ∷ 2 ∷ []
+colours_of BlueGreenGreenRed = 2 ∷ 1 ∷ 1 ∷ 0 ∷ []
+colours_of GreenRedBlueGreen = 1 ∷ 0 ∷ 2 ∷ 1 ∷ []
+colours_of GreenBlueRedGreen = 1 ∷ 2 ∷ 0 ∷ 1 ∷ []
+
+-- the kind and the colours of the pattern
+abbrev pub kind_of : Demosaic → Kind
+kind_of s = s.kind
+
+abbrev pub cfa_of : Demosaic → List ℕ
+cfa_of s = colours_of s.pattern
