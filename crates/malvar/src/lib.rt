@@ -4,12 +4,14 @@
 
 mod filters;
 mod pattern;
+mod planes;
 mod rows;
 mod stage;
 mod windows;
 
 ghost use Rattle.std.specs.Prelude.{◌≡◌};
 
+pub use planes::whole;
 pub use stage::Demosaic;
 
 /// How colours are filled in.

@@ -117,7 +117,15 @@ pub(crate) struct Row {
 }
 
 /// Develops the columns from `from` up to `to`, reflecting columns outside the plane.
-fn fill_reflecting(window: &Window, sites: RowSites, kind: Kind, first: usize, from: usize, to: usize, out: &mut [u16])
+fn fill_reflecting(
+    window: &Window,
+    sites: RowSites,
+    kind: Kind,
+    first: usize,
+    from: usize,
+    to: usize,
+    out: &mut [u16],
+)
     requires window { IsWindow window.now }
     requires spans { Spans (reach_of kind) window.now from to }
     requires first { first ≤ from }
@@ -126,7 +134,11 @@ fn fill_reflecting(window: &Window, sites: RowSites, kind: Kind, first: usize, f
     ensures before { SameBelow out.old out.new (from - first) }
 {
     for c in from..to {
-        put(out, c - first, sites.site(c).pixel(kind, window.around_at(kind, c)));
+        put(
+            out,
+            c - first,
+            sites.site(c).pixel(kind, window.around_at(kind, c)),
+        );
     }
 }
 
@@ -160,7 +172,15 @@ fn fill_pairs(window: &Window, row: Row, from: usize, pairs: usize, out: &mut [u
 
 /// The same, by one loop for each kind of row.
 #[inline(always)]
-fn fill_sites(window: &Window, sites: RowSites, kind: Kind, first: usize, from: usize, pairs: usize, out: &mut [u16])
+fn fill_sites(
+    window: &Window,
+    sites: RowSites,
+    kind: Kind,
+    first: usize,
+    from: usize,
+    pairs: usize,
+    out: &mut [u16],
+)
     requires window { IsWindow window.now }
     requires spans { Spans (reach_of kind) window.now from (from + pairs * 2) }
     requires even { from % 2 ≡ 0 }
@@ -173,26 +193,54 @@ fn fill_sites(window: &Window, sites: RowSites, kind: Kind, first: usize, from: 
 {
     match sites {
         RowSites::RedGreen => {
-            let row = Row { kind, even: Site::Red, odd: Site::GreenByRed, first };
+            let row = Row {
+                kind,
+                even: Site::Red,
+                odd: Site::GreenByRed,
+                first,
+            };
             fill_pairs(window, row, from, pairs, out);
         }
         RowSites::GreenRed => {
-            let row = Row { kind, even: Site::GreenByRed, odd: Site::Red, first };
+            let row = Row {
+                kind,
+                even: Site::GreenByRed,
+                odd: Site::Red,
+                first,
+            };
             fill_pairs(window, row, from, pairs, out);
         }
         RowSites::GreenBlue => {
-            let row = Row { kind, even: Site::GreenByBlue, odd: Site::Blue, first };
+            let row = Row {
+                kind,
+                even: Site::GreenByBlue,
+                odd: Site::Blue,
+                first,
+            };
             fill_pairs(window, row, from, pairs, out);
         }
         RowSites::BlueGreen => {
-            let row = Row { kind, even: Site::Blue, odd: Site::GreenByBlue, first };
+            let row = Row {
+                kind,
+                even: Site::Blue,
+                odd: Site::GreenByBlue,
+                first,
+            };
             fill_pairs(window, row, from, pairs, out);
         }
     }
 }
 
 /// The same, by loops of their own for each kind of demosaicing.
-fn fill_inside(window: &Window, sites: RowSites, kind: Kind, first: usize, from: usize, pairs: usize, out: &mut [u16])
+fn fill_inside(
+    window: &Window,
+    sites: RowSites,
+    kind: Kind,
+    first: usize,
+    from: usize,
+    pairs: usize,
+    out: &mut [u16],
+)
     requires window { IsWindow window.now }
     requires spans { Spans (reach_of kind) window.now from (from + pairs * 2) }
     requires even { from % 2 ≡ 0 }
@@ -210,7 +258,14 @@ fn fill_inside(window: &Window, sites: RowSites, kind: Kind, first: usize, from:
 }
 
 /// Develops the columns from `first` up to `to`.
-pub(crate) fn fill(window: &Window, sites: RowSites, kind: Kind, first: usize, to: usize, out: &mut [u16])
+pub(crate) fn fill(
+    window: &Window,
+    sites: RowSites,
+    kind: Kind,
+    first: usize,
+    to: usize,
+    out: &mut [u16],
+)
     requires window { IsWindow window.now }
     requires spans { Spans (reach_of kind) window.now first to }
     requires out { length out.old ≡ (to - first) * 3 }

@@ -64,7 +64,13 @@ impl Stage for Demosaic {
         rect.grow(self.kind.reach(), &input.rect())
     }
 
-    fn run<L: Ledger>(&self, input: &View<'_>, whole: Shape, out: &mut TileMut<'_>, work: &mut Steps<L>) {
+    fn run<L: Ledger>(
+        &self,
+        input: &View<'_>,
+        whole: Shape,
+        out: &mut TileMut<'_>,
+        work: &mut Steps<L>,
+    ) {
         work.tick();
         let Demosaic { kind, pattern } = *self;
         let rect = out.rect();

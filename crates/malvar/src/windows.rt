@@ -81,5 +81,12 @@ pub(crate) fn fill_row(
 {
     let part = rect.grow(kind.reach(), &whole.rect());
     let window = window_of(input, whole, kind, r, part);
-    fill(&window, pattern.sites(r), kind, rect.left as usize, rect.right as usize, out);
+    fill(
+        &window,
+        pattern.sites(r),
+        kind,
+        rect.left as usize,
+        rect.right as usize,
+        out,
+    );
 }
