@@ -48,7 +48,7 @@ impl Told {
 // Changes of entries, and the refusal of the frame.
 type Row = (&'static [(u16, Told)], FrameFault);
 
-const FIRST_STEPS: [Row; 37] = [
+static FIRST_STEPS: [Row; 37] = [
     (&[(50706, Gone)], F::NotDng),
     (&[(50706, Bytes(&[1, 4, 0]))], F::BadEntry { tag: 50706 }),
     (&[(50706, Bytes(&[1, 7, 0, 0]))], F::Newer),
@@ -100,7 +100,7 @@ const FIRST_STEPS: [Row; 37] = [
     (&[(50829, Shorts(&[0, 0, 3, 4]))], F::Size),
 ];
 
-const SEGMENTS: [Row; 24] = [
+static SEGMENTS: [Row; 24] = [
     (&[(278, Shorts(&[0]))], F::Layout),
     (&[(278, Shorts(&[4, 4]))], F::Layout),
     (&[(278, Bytes(&[4]))], F::BadEntry { tag: 278 }),
@@ -173,7 +173,7 @@ const SEGMENTS: [Row; 24] = [
     (&[(50711, Shorts(&[2]))], F::Cfa),
 ];
 
-const LEVELS_AND_CROP: [Row; 24] = [
+static LEVELS_AND_CROP: [Row; 24] = [
     (&[(50712, Shorts(&[]))], F::Levels),
     (&[(50712, Longs(&[5]))], F::BadEntry { tag: 50712 }),
     (&[(50713, Shorts(&[0, 1]))], F::Levels),
@@ -215,7 +215,7 @@ const LEVELS_AND_CROP: [Row; 24] = [
     ),
 ];
 
-const COLOURS: [Row; 14] = [
+static COLOURS: [Row; 14] = [
     (&[(50721, Signed(&[(1, 1); 8]))], F::Colour { tag: 50721 }),
     (&[(50721, Signed(&[(1, 0); 9]))], F::Colour { tag: 50721 }),
     (&[(50721, Signed(&[(1, -1); 9]))], F::Colour { tag: 50721 }),
@@ -246,6 +246,22 @@ const COLOURS: [Row; 14] = [
     (&[(50964, Signed(&[(-17, 1); 9]))], F::Colour { tag: 50964 }),
     (&[(50965, Signed(&[(1, 1)]))], F::Colour { tag: 50965 }),
 ];
+
+fn first_steps() -> &'static [Row] {
+    &FIRST_STEPS
+}
+
+fn segments_and_pattern() -> &'static [Row] {
+    &SEGMENTS
+}
+
+fn levels_and_crop() -> &'static [Row] {
+    &LEVELS_AND_CROP
+}
+
+fn colours() -> &'static [Row] {
+    &COLOURS
+}
 
 // The flat frame with these changes.
 fn changed(alloc: Global, changes: &[(u16, Told)], order: Order) -> Result<Vec<u8>, AllocError> {
@@ -282,10 +298,10 @@ fn first_wrong(alloc: Global, rows: &[Row]) -> Result<Option<usize>, AllocError>
 #[test]
 fn refuses(rt: HostRuntime) -> Result<(), Fail> {
     let alloc = rt.alloc();
-    assert_eq!(rt; first_wrong(alloc, &FIRST_STEPS)?, None);
-    assert_eq!(rt; first_wrong(alloc, &SEGMENTS)?, None);
-    assert_eq!(rt; first_wrong(alloc, &LEVELS_AND_CROP)?, None);
-    assert_eq!(rt; first_wrong(alloc, &COLOURS)?, None);
+    assert_eq!(rt; first_wrong(alloc, first_steps())?, None);
+    assert_eq!(rt; first_wrong(alloc, segments_and_pattern())?, None);
+    assert_eq!(rt; first_wrong(alloc, levels_and_crop())?, None);
+    assert_eq!(rt; first_wrong(alloc, colours())?, None);
     assert_eq!(rt; read(alloc, b"").err(), Some(F::NotTiff));
     assert_eq!(rt;
         read(alloc, b"II*\0\x08\0\0\0\x01\0").err(),
@@ -294,8 +310,10 @@ fn refuses(rt: HostRuntime) -> Result<(), Fail> {
     Ok(())
 }
 
-// The gains, the black levels, the white level and the crop's edges that are told.
-fn values_of(frame: &Frame) -> ([u32; 3], Option<i32>, u32, [u32; 4]) {
+// The gains, the first black level, the white level and the crop's edges.
+type Values = ([u32; 3], Option<i32>, u32, [u32; 4]);
+
+fn values_of(frame: &Frame) -> Values {
     let crop = frame.crop;
     (
         frame.colour.gains,
@@ -306,7 +324,7 @@ fn values_of(frame: &Frame) -> ([u32; 3], Option<i32>, u32, [u32; 4]) {
 }
 
 // Entries, and what of the record they change. Absent entries are the defaults.
-const RECORDS: [(&[(u16, Told)], ([u32; 3], Option<i32>, u32, [u32; 4])); 6] = [
+static RECORDS: [(&[(u16, Told)], Values); 6] = [
     (&[], ([4096; 3], Some(0), 65535, [0, 0, 4, 4])),
     (
         &[(50728, Fractions(&[(1, 2), (1, 1), (2, 3)]))],
@@ -330,10 +348,14 @@ const RECORDS: [(&[(u16, Told)], ([u32; 3], Option<i32>, u32, [u32; 4])); 6] = [
     ),
 ];
 
+fn records() -> &'static [(&'static [(u16, Told)], Values)] {
+    &RECORDS
+}
+
 #[test]
 fn reads_records(rt: HostRuntime) -> Result<(), Fail> {
     let alloc = rt.alloc();
-    for (changes, want) in &RECORDS {
+    for (changes, want) in records() {
         for order in [Order::Little, Order::Big] {
             let bytes = changed(alloc, changes, order)?;
             let frame = read(alloc, &bytes)?;
