@@ -4,5 +4,7 @@
 
 mod packed;
 mod segments;
+#[cfg(test)]
+mod tests;
 
 pub use segments::Segments;
