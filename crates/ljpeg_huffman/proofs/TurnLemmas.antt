@@ -1,10 +1,10 @@
 -- Differences that are taken one after the other, by tables that take turns.
-use Rattle.std.proofs.Common.{◌≡◌, ◌≢◌, ℕ, suc, ◌+◌, ◌%◌, ◌<◌, ◌≤◌, ◌↔◌, Bool, List, [], ◌∷◌, ◌++◌, length, map, take, set, get_or, Result, Err, refl, sym, ap, ap₂, ◌∙◌, subst, arith, append_assoc, add-one, mod-eq_of_lt, ℤ}
+use Rattle.std.proofs.Common.{◌≡◌, ℕ, suc, ◌+◌, ◌%◌, ◌<◌, ◌≤◌, ◌↔◌, Bool, List, [], ◌∷◌, ◌++◌, length, map, take, set, get_or, Result, Err, sym, ap, ap₂, ◌∙◌, subst, arith, append_assoc, add-one, mod-eq_of_lt, ℤ}
 use Rattle.std.proofs.Math.Nat.{suc-mod, mod_self}
 use Rattle.std.proofs.Math.Seq.{take-suc-set}
 use Rattle.std.proofs.lemmas.List.{get_or-map, length-map, length-take, map-append}
 use Rattle.ljpeg_huffman.specs.Words.{Table}
-use Rattle.ljpeg_huffman.specs.Differences.{EndsWithin, HasNoCode, IsRefused, SpellsOne, Spells, StopsShort, Takes, by_turns, modulo}
+use Rattle.ljpeg_huffman.specs.Differences.{EndsWithin, HasNoCode, IsRefused, SpellsOne, StopsShort, Takes, by_turns, modulo}
 use Rattle.ljpeg_huffman.specs.declared.bits.BitFault.{BitFault}
 use Rattle.ljpeg_huffman.specs.declared.bits.BitFault.TheVariants.{Ended, NoCode}
 use Rattle.ljpeg_huffman.proofs.SpellLemmas.{Spells-push}

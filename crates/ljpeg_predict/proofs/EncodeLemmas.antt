@@ -1,5 +1,5 @@
 -- Differences as bits.
-use Rattle.std.proofs.Common.{◌≡◌, ◌≢◌, ℕ, zero, suc, ◌+◌, ◌-◌, ◌*◌, ◌/◌, ◌%◌, ◌^◌, ◌<◌, ◌≤◌, inl, inr, Bool, cond, ltb, ℤ, pos, negsuc, ◌-ℤ◌, List, [], ◌∷◌, ◌++◌, length, get_or, unsigned_abs, refl, sym, ap, ap₂, ◌∙◌, subst, arith, append_assoc, append-nil, ne_eqb, zero-add, true, replicate, lit<}
+use Rattle.std.proofs.Common.{◌≡◌, ◌≢◌, ℕ, suc, ◌+◌, ◌-◌, ◌*◌, ◌%◌, ◌^◌, ◌<◌, ◌≤◌, inl, inr, Bool, ℤ, pos, negsuc, List, [], ◌∷◌, ◌++◌, get_or, unsigned_abs, refl, sym, ap, ap₂, ◌∙◌, subst, arith, append_assoc, append-nil, ne_eqb, zero-add, true, replicate, lit<}
 use Rattle.std.specs.Int.{leading_zeros, w32}
 use Rattle.std.specs.List.{flat_map, range_with_len}
 use Rattle.std.proofs.Math.Nat.{pow-le-pow_right}
@@ -148,7 +148,7 @@ module _ (precision lines columns place : ℕ) (predictor : Predictor) (samples 
 
 pub sample_bits-none : (scan : Scan) (samples : List ℕ) → sample_bits scan samples 0 ≡ []
 unfolding sample_bits
-sample_bits-none scan samples = refl
+sample_bits-none told samples = refl
 
 one_place : (count : ℕ) → range_with_len 0 (count + 1) ≡ range_with_len 0 count ++ count ∷ []
 one_place count =

@@ -72,7 +72,7 @@ pub record HeadersLeft (bytes : List ℕ) (told : Told) (left : List ℕ) : Type
   pub enough : length left ≤ fuel
   pub same : headers_from fuel told left ≡ headers_in bytes
 
-one_segment : (fuel : ℕ) (told : Told) (left : List ℕ) → headers_from (suc fuel) told left ≡ segment_then told left (headers_from fuel)
+pub one_segment : (fuel : ℕ) (told : Told) (left : List ℕ) → headers_from (suc fuel) told left ≡ segment_then told left (headers_from fuel)
 unfolding headers_from
 one_segment fuel told left = refl
 

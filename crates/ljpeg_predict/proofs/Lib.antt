@@ -11,3 +11,5 @@ pub mod OneAnswerLemmas
 pub mod RebuiltLemmas
 pub mod WriterLemmas
 pub mod EncodeLemmas
+pub mod LawLemmas
+pub mod HeadLemmas

@@ -1,6 +1,6 @@
--- The encoder's stream: one of those that spell the samples (ITU-T T.81, annex H). Its table, its headers and the way in
--- which it fills the last byte are this project's own.
-use Rattle.std.specs.Prelude.{◌≡◌, ℕ, suc, ◌+◌, ◌-◌, ◌*◌, ◌/◌, ◌%◌, ◌^◌, ◌<◌, ◌==◌, nat_lt, unsigned_abs, if◌then◌else◌, ℤ, pos, negsuc, ◌-ℤ◌, Bool, true, List, [], ◌∷◌, ◌++◌, length, map, replicate, slice_index, Ok}
+-- The encoder's stream: one of those that spell the samples (ITU-T T.81, annex H). Its table and its headers are this
+-- project's own choice.
+use Rattle.std.specs.Prelude.{◌≡◌, ℕ, suc, ◌+◌, ◌-◌, ◌/◌, ◌%◌, ◌^◌, ◌<◌, ◌==◌, nat_lt, unsigned_abs, if◌then◌else◌, ℤ, pos, negsuc, ◌-ℤ◌, Bool, true, List, [], ◌∷◌, ◌++◌, length, replicate, slice_index, Ok}
 use Rattle.std.specs.Int.{leading_zeros, w32}
 use Rattle.std.specs.List.{flat_map, range_with_len}
 use Rattle.binary_digits.specs.Digits.{bits_of, byte_bits}
@@ -55,7 +55,8 @@ stuffed bytes = flat_map (λ byte. if byte == 0xFF then 0xFF ∷ 0 ∷ [] else b
 -- the headers: SOI; SOF3 with one component; DHT with the encoder's table; SOS with the predictor's selection value
 abbrev pub head : ℕ → ℕ → ℕ → ℕ → List ℕ
 head precision lines columns selection =
-    0xFF ∷ 0xD8 ∷ 0xFF ∷ 0xC3 ∷ 0 ∷ 11 ∷ precision ∷ lines / 256 ∷ lines % 256 ∷ columns / 256 ∷ columns % 256 ∷ 1 ∷ 1 ∷ 0x11 ∷ 0
+    0xFF ∷ 0xD8
+    ∷ 0xFF ∷ 0xC3 ∷ 0 ∷ 11 ∷ precision ∷ lines / 256 ∷ lines % 256 ∷ columns / 256 ∷ columns % 256 ∷ 1 ∷ 1 ∷ 0x11 ∷ 0
     ∷ 0xFF ∷ 0xC4 ∷ 0 ∷ 36 ∷ 0 ∷ 0 ∷ 0 ∷ 0 ∷ 14 ∷ 3 ∷ 0 ∷ 0 ∷ 0 ∷ 0 ∷ 0 ∷ 0 ∷ 0 ∷ 0 ∷ 0 ∷ 0 ∷ 0
     ∷ 0 ∷ 1 ∷ 2 ∷ 3 ∷ 4 ∷ 5 ∷ 6 ∷ 7 ∷ 8 ∷ 9 ∷ 10 ∷ 11 ∷ 12 ∷ 13 ∷ 14 ∷ 15 ∷ 16
     ∷ 0xFF ∷ 0xDA ∷ 0 ∷ 8 ∷ 1 ∷ 1 ∷ 0 ∷ selection ∷ 0 ∷ 0 ∷ []
@@ -71,8 +72,8 @@ written_scan precision lines columns predictor bytes = record {
   bytes = bytes;
 }
 
--- The bytes are the encoder's stream: the headers, the bits of all differences and fewer than eight ones in whole bytes,
--- stuffed, and EOI.
+-- The bytes are the encoder's stream: the headers, the bits of all differences and fewer than eight ones in whole
+-- bytes, stuffed, and EOI (T.81, F.1.2.3).
 pub record IsStream (samples : List ℕ) (lines columns precision selection : ℕ) (bytes : List ℕ) : Type 0 where
   pub predictor : Predictor
   pub chosen : predictor_of selection ≡ Ok predictor

@@ -1,11 +1,12 @@
 //! Streams from samples: one component, with one table for all of them.
 
-ghost use Rattle.std.specs.Prelude.{ℕ, ◌≡◌, ◌+◌, ◌-◌, ◌*◌, ◌/◌, ◌%◌, ◌^◌, ◌<◌, ◌≤◌, [], ◌++◌, length, unsigned_abs, IfOk, OnOk, OnErr};
+ghost use Rattle.std.specs.Prelude.{ℕ, List, All, ◌≡◌, ◌+◌, ◌-◌, ◌*◌, ◌/◌, ◌%◌, ◌^◌, ◌<◌, ◌≤◌, [], ◌++◌, length, unsigned_abs, IfOk, OnOk, OnErr};
 ghost use Rattle.binary_digits.specs.Digits.{bits_of};
 ghost use Rattle.ljpeg_huffman.specs.Differences.{further_bits, modulo};
 ghost use Rattle.ljpeg_predict.specs.Encoding.{Appends, IsStream, category_of, code_word, difference_bits, extra_of, head, sample_bits, signed, written_scan};
 ghost use Rattle.ljpeg_predict.specs.Headers.{predictor_of};
 ghost use Rattle.ljpeg_predict.specs.Prediction.{prediction};
+ghost use Rattle.ljpeg_predict.specs.Streams.{IsAnswer};
 ghost use Rattle.ljpeg_predict.specs.Writing.{Adds, AddsLast, KeepsFront};
 
 use crate::lines::predict;
@@ -35,7 +36,8 @@ fn predicted_at(shape: Shape, samples: &[u16], place: usize, column: usize) -> u
     requires columns { 0 < shape.columns }
     requires place { place < length samples.now }
     requires column { column ≡ place % shape.columns }
-    ensures { (lines : ℕ) → result ≡ modulo (prediction (written_scan shape.precision lines shape.columns shape.predictor []) samples.now place) }
+    ensures { (lines : ℕ) → result
+        ≡ modulo (prediction (written_scan shape.precision lines shape.columns shape.predictor []) samples.now place) }
 {
     if place == 0 {
         return 1 << (shape.precision - 1);
@@ -105,7 +107,8 @@ fn extra_of(number: u16, category: u32) -> u32
 fn write_difference(number: u16, pending: Pending, out: &mut Vec<u8>) -> Result<Pending, AllocError>
     requires { pending.held < 8 }
     ensures few { IfOk result (λ left. left.held < 8) }
-    ensures bits { IfOk result (Adds out.old.items out.new.items (bits_of pending.held pending.word ++ difference_bits (signed number))) }
+    ensures bits { IfOk result (Adds out.old.items out.new.items
+        (bits_of pending.held pending.word ++ difference_bits (signed number))) }
     ensures kept { KeepsFront out.old.items out.new.items }
 {
     let category = category_of(number);
@@ -123,7 +126,8 @@ fn write_samples(shape: Shape, samples: &[u16], out: &mut Vec<u8>) -> Result<(),
     requires high { shape.precision ≤ 16 }
     requires columns { 0 < shape.columns }
     ensures ok { OnOk result ((lines : ℕ) → AddsLast out.old.items out.new.items
-        (sample_bits (written_scan shape.precision lines shape.columns shape.predictor []) samples.now (length samples.now))) }
+        (sample_bits (written_scan shape.precision lines shape.columns shape.predictor [])
+        samples.now (length samples.now))) }
     ensures kept { KeepsFront out.old.items out.new.items }
 {
     let mut pending = Pending::NONE;
@@ -291,3 +295,11 @@ fn chosen(selection: u8) -> Predictor
         Err(_) => unreachable!(),
     }
 }
+
+/// The encoder's stream is decoded to the samples.
+pub fn decoding_gives_back()
+    ensures { (samples bytes : List ℕ) (lines columns precision selection : ℕ) → 0 < length samples
+        → length samples ≡ lines * columns → lines < 2 ^ 16 → columns < 2 ^ 16 → 2 ≤ precision → precision ≤ 16
+        → All (λ sample. sample < 2 ^ 16) samples → IsStream samples lines columns precision selection bytes
+        → IsAnswer bytes (length samples) (Ok tt) samples }
+{}

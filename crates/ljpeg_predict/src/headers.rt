@@ -87,7 +87,8 @@ fn total(counts: &[u8]) -> usize
 /// The table at the front of a body with its number, and the bytes behind it.
 #[tactic(auto, unfolding(crate::specs::Headers::table_in))]
 fn read_table(body: &[u8]) -> Result<(u8, CodeTable, &[u8]), JpegFault>
-    ensures gives { Gives (λ told. record { number = told.0; table = told.1; rest = told.2.now }) result (table_in body.now) }
+    ensures gives { Gives (λ told. record { number = told.0; table = told.1; rest = told.2.now })
+        result (table_in body.now) }
     ensures number { IfOk result (λ told. told.0 < 4) }
     ensures shorter { IfOk result (λ told. length told.2.now < length body.now) }
 {

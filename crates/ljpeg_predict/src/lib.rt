@@ -18,7 +18,7 @@ mod segments;
 mod tests;
 mod writer;
 
-pub use encoder::{EncodeFault, encode};
+pub use encoder::{EncodeFault, decoding_gives_back, encode};
 use headers::read_headers;
 use ljpeg_huffman::BitFault;
 use samples::read_samples;
@@ -128,7 +128,8 @@ pub fn one_rebuilding()
 
 /// A stream has one answer: the samples of one list, or one refusal.
 pub fn one_answer()
-    ensures { (bytes : List ℕ) (want : ℕ) (result other : Result (Unit {0}) AnyFault) (samples others : List ℕ) → 0 < want
+    ensures { (bytes : List ℕ) (want : ℕ) (result other : Result (Unit {0}) AnyFault) (samples others : List ℕ)
+        → 0 < want
         → IsAnswer bytes want result samples → IsAnswer bytes want other others
         → (result ≡ other) × (IsOk result → samples ≡ others) }
 {}

@@ -69,7 +69,8 @@ fn inner_samples<P: Fn(u16, u16, u16) -> u16>(
     requires above { length above.now ≡ length line.old }
     ensures first { (place : ℕ) → place < step → slice_index line.new place ≡ slice_index line.old place }
     ensures others { (place : ℕ) → step ≤ place → place < length line.old
-        → (p : ℕ) × P.post predict (slice_index line.new (place - step)) (slice_index above.now place) (slice_index above.now (place - step)) p
+        → (p : ℕ) × P.post predict
+        (slice_index line.new (place - step)) (slice_index above.now place) (slice_index above.now (place - step)) p
         × (slice_index line.new place ≡ (p + slice_index line.old place) % 2 ^ 16) }
 {
     for place in step..line.len() {

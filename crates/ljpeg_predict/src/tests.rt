@@ -1,4 +1,4 @@
-use crate::{JpegFault, decode};
+use crate::{JpegFault, decode, encode};
 use std::alloc::{AllocError, Global};
 use std::test::Fail;
 
@@ -172,5 +172,24 @@ fn answers_streams(rt: HostRuntime) -> Result<(), Fail> {
     for (place, case) in refusals().iter().enumerate() {
         assert!(rt; answers(rt.alloc(), case)?, "refusals, {place}");
     }
+    Ok(())
+}
+
+/// The encoder's stream of 2048 four times, in lines of 2, with 12 bits and predictor 1.
+static FLAT: [u8; 67] = [
+    0xff, 0xd8, 0xff, 0xc3, 0, 11, 12, 0, 2, 0, 2, 1, 1, 0x11, 0, 0xff, 0xc4, 0, 36, 0, 0, 0, 0,
+    14, 3, 0, 0, 0, 0, 0, 0, 0, 0, 0, 0, 0, 0, 1, 2, 3, 4, 5, 6, 7, 8, 9, 10, 11, 12, 13, 14, 15,
+    16, 0xff, 0xda, 0, 8, 1, 1, 0, 1, 0, 0, 0, 0, 0xff, 0xd9,
+];
+
+#[test]
+fn encodes_samples(rt: HostRuntime) -> Result<(), Fail> {
+    let samples = [2048; 4];
+    let mut stream = Vec::new(rt.alloc());
+    assert_eq!(rt; encode(&samples, 2, 12, 1, &mut stream), Ok(()));
+    assert_eq!(rt; stream.as_slice(), FLAT.as_slice());
+    let mut decoded = [0; 4];
+    assert_eq!(rt; decode(&stream, &mut decoded), Ok(()));
+    assert_eq!(rt; decoded, samples);
     Ok(())
 }

@@ -28,7 +28,8 @@ impl Pending {
         requires size { size ≤ 24 }
         requires number { number < 2 ^ size }
         ensures few { IfOk result (λ left. left.held < 8) }
-        ensures bits { IfOk result (λ left. Adds out.old.items out.new.items (bits_of self.held self.word ++ bits_of size number) left) }
+        ensures bits { IfOk result (Adds out.old.items out.new.items
+            (bits_of self.held self.word ++ bits_of size number)) }
         ensures kept { KeepsFront out.old.items out.new.items }
     {
         let word = self.word % (1 << 8) * (1 << size) + number;

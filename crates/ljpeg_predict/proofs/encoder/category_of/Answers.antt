@@ -1,5 +1,4 @@
-use Rattle.std.proofs.Common.{arith, ap, ◌-◌}
-use Rattle.std.specs.Int.{leading_zeros, w32}
+use Rattle.std.proofs.Common.{arith}
 use Rattle.ljpeg_predict.proofs.EncodeLemmas.{digits_of}
 use Rattle.ljpeg_predict.proofs.encoder.category_of.Goals as goal
 

@@ -1,4 +1,4 @@
-use Rattle.std.proofs.Common.{◌≡◌, ◌*◌, ◌%◌, ◌^◌, ◌<◌, arith, ap, ◌-◌, sym, ◌∙◌, subst}
+use Rattle.std.proofs.Common.{◌≡◌, ◌*◌, ◌%◌, ◌^◌, arith, ap}
 use Rattle.std.proofs.lemmas.Nat.{one_shl}
 use Rattle.ljpeg_predict.proofs.EncodeLemmas.{magnitude_low, signed_digits}
 use Rattle.ljpeg_predict.proofs.encoder.extra_of.Goals as goal

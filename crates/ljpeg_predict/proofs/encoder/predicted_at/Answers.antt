@@ -1,4 +1,4 @@
-use Rattle.std.proofs.Common.{◌≡◌, ◌≢◌, ◌%◌, ◌-◌, arith, sym, ap, ◌∙◌}
+use Rattle.std.proofs.Common.{◌≢◌, ◌%◌, ◌-◌, arith, sym, ◌∙◌}
 use Rattle.ljpeg_predict.proofs.EncodeLemmas.{at_start, in_first_column, in_first_line, within}
 use Rattle.ljpeg_predict.proofs.encoder.predicted_at.Goals as goal
 

@@ -1,4 +1,4 @@
-use Rattle.std.proofs.Common.{◌*◌, ◌%◌, ◌+◌, ◌^◌, ◌++◌, ◌≢◌, arith, sym, ap, subst, IfOk}
+use Rattle.std.proofs.Common.{◌++◌, ◌≢◌, arith, sym, subst, IfOk}
 use Rattle.std.proofs.lemmas.Nat.{one_shl}
 use Rattle.binary_digits.specs.Digits.{bits_of}
 use Rattle.ljpeg_predict.specs.Encoding.{signed}

@@ -1,5 +1,5 @@
-use Rattle.std.proofs.Common.{◌≡◌, ◌+◌, ◌-◌, ◌%◌, ◌<◌, ◌++◌, ℕ, [], length, get_or, mod-eq_of_lt, arith, refl, sym, ap, ◌∙◌, subst, IfOk, OnOk}
-use Rattle.std.proofs.lemmas.Result.{IfOk-weaker, on_ok_weaker}
+use Rattle.std.proofs.Common.{◌≡◌, ◌++◌, [], length, mod-eq_of_lt, arith, sym, ◌∙◌, subst}
+use Rattle.std.proofs.lemmas.Result.{on_ok_weaker}
 use Rattle.binary_digits.specs.Digits.{bits_of}
 use Rattle.binary_digits.proofs.DigitLemmas.{bits_of-zero}
 use Rattle.ljpeg_huffman.proofs.TurnLemmas.{turn_begins, turn_goes_on}

@@ -13,16 +13,19 @@ returns-clause-ok c =
     let last = c.in_ok-write_samples.ensures.ok lines in
     let first : c.extend_from_slice.new.self.items ≡ old ++ front = c.in_ok-extend_from_slice.ensures.items ∙ ap (λ x. old ++ x) c.head_of-head.ensures in
     let end : List ℕ = 255 ∷ 217 ∷ [] in
-    let whole : c.extend_from_slice-2.new.self.items ≡ old ++ (front ++ stuffed last.stretch ++ end) = c.in_ok-extend_from_slice-2.ensures.items ∙ ap (λ x. x ++ end) (last.is ∙ ap (λ x. x ++ stuffed last.stretch) first ∙ append_assoc old front (stuffed last.stretch)) ∙ append_assoc old (front ++ stuffed last.stretch) end in
-    (front ++ stuffed last.stretch ++ end, record {
-      predictor = shape.predictor;
-      chosen = c.requires.predictor;
-      stretch = last.stretch;
-      ones = last.ones;
-      few = last.few;
-      digits = last.digits;
-      is = refl;
-    }, whole)
+    let whole : c.extend_from_slice-2.new.self.items ≡ old ++ (front ++ stuffed last.stretch ++ end) = c.in_ok-extend_from_slice-2.ensures.items ∙ ap (λ x. x ++ end) (last.is ∙ ap (λ x. x ++ stuffed last.stretch) first ∙ append_assoc old front (stuffed last.stretch)) ∙ append_assoc old (front ++ stuffed last.stretch) end in (
+      front ++ stuffed last.stretch ++ end,
+      record {
+        predictor = shape.predictor;
+        chosen = c.requires.predictor;
+        stretch = last.stretch;
+        ones = last.ones;
+        few = last.few;
+        digits = last.digits;
+        is = refl;
+      },
+      whole,
+    )
 
 pub returns-clause-kept : goal.returns-clause-kept
 returns-clause-kept c =

@@ -1,7 +1,7 @@
-use Rattle.std.proofs.Common.{Err, FitsSigned, w32, rules, arith, refl, sym, ◌∙◌, ap, subst, length}
+use Rattle.std.proofs.Common.{Err, FitsSigned, w32, rules, arith, refl, sym, ◌∙◌, subst}
 use Rattle.std.proofs.lemmas.Int.{to_z-of_z}
 use Rattle.std.proofs.lemmas.Result.{err_from_is_err_and}
-use Rattle.ljpeg_huffman.specs.Differences.{IsRefused, SpellsOne, StopsShort}
+use Rattle.ljpeg_huffman.specs.Differences.{IsRefused, SpellsOne}
 use Rattle.ljpeg_huffman.proofs.TurnLemmas.{turn_table, turn_goes_on, turn_begins, takes_more, refused_by, stops}
 use Rattle.ljpeg_huffman.proofs.bits.Bits.next_differences.Goals as goal
 use Rattle.ljpeg_huffman.proofs.bits.Bits.next_differences.Goals.{then-turn-tables, else-turn-tables}

@@ -1,4 +1,4 @@
-use Rattle.std.proofs.Common.{◌≡◌, ◌%◌, ◌<◌, length, map, take}
+use Rattle.std.proofs.Common.{◌≡◌, ◌%◌, length, map, take}
 use Rattle.ljpeg_huffman.specs.Differences.{Takes, by_turns}
 use Rattle.ljpeg_huffman.proofs.bits.Bits.next_differences.Given as goal
 

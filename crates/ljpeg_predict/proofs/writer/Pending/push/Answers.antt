@@ -1,5 +1,4 @@
-use Rattle.std.proofs.Common.{◌≡◌, ◌+◌, ◌-◌, ◌≤◌, arith, refl, sym, ap, ◌∙◌, subst}
-use Rattle.ljpeg_predict.specs.Writing.{Adds}
+use Rattle.std.proofs.Common.{◌-◌, arith, refl}
 use Rattle.ljpeg_predict.proofs.WriterLemmas.{adds_byte, adds_nothing, joined, joined_fits, kept_all, kept_twice}
 use Rattle.ljpeg_predict.proofs.writer.Pending.push.Goals as goal
 
