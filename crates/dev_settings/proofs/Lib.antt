@@ -1,4 +1,5 @@
 pub mod Examples
 pub mod LineLemmas
 pub mod PlaceLemmas
+pub mod Points
 pub mod WordLemmas

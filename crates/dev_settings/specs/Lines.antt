@@ -1,5 +1,5 @@
 -- The lines of a script, which are this project's own.
-use Rattle.std.specs.Prelude.{ℕ, ◌-◌, List, [], ◌∷◌, ◌++◌, if◌then◌else◌, ◌==◌, nat_eq, length, take}
+use Rattle.std.specs.Prelude.{ℕ, ◌-◌, List, [], ◌∷◌, ◌++◌, if◌then◌else◌, ◌==◌, nat_eq, nat_lt, length, take, Option, Some, None}
 use Rattle.std.specs.List.{ends_with}
 
 -- the bytes of a script: the lines that a line feed (10) ends, each without it, and what follows the last line feed
@@ -37,3 +37,7 @@ all_lines lines = lines.complete ++ last_line lines.rest
 -- the text of a line: a carriage return (13) that is its last byte is dropped
 abbrev pub text_of : List ℕ → List ℕ
 text_of line = if ends_with nat_eq line (13 ∷ []) then take (length line - 1) line else line
+
+-- the text of a line of at most 4,096 bytes, a carriage return at its end counted
+abbrev pub line_text_of : List ℕ → Option (List ℕ)
+line_text_of line = if nat_lt 4096 (length line) then None else Some (text_of line)

@@ -5,6 +5,10 @@ use Rattle.malvar.specs.declared.Kind.TheVariants.{Malvar, Bilinear}
 use Rattle.tone_table.specs.Knots.{knots_of}
 use Rattle.tone_table.specs.declared.Curve.{Curve}
 use Rattle.tone_table.specs.declared.Curve.TheVariants.{Linear, Root, Knots}
+use Rattle.dev_settings.specs.declared.key.Key.{Key}
+use Rattle.dev_settings.specs.declared.key.Key.TheVariants as key
+use Rattle.dev_settings.specs.declared.settings.Change.{Change}
+use Rattle.dev_settings.specs.declared.settings.Change.TheVariants as change
 use Rattle.dev_settings.specs.declared.settings.MatrixChoice.{MatrixChoice}
 use Rattle.dev_settings.specs.declared.settings.MatrixChoice.TheVariants.{Auto, Camera, Forward1, Forward2, Own}
 
@@ -105,3 +109,13 @@ abbrev pub tone_of : Written → Option Curve
 tone_of (name text) = curve_named text
 tone_of (integer n) = None
 tone_of (integers ns) = option_map (λ knots. Knots knots) (option_and_then knots_of (points_of ns))
+
+-- the change of a key to a value
+abbrev pub change_of : Key → Written → Option Change
+change_of key.Black value = option_map (λ level. change.Black level) (level_of 0 value)
+change_of key.White value = option_map (λ level. change.White level) (level_of 1 value)
+change_of key.Demosaic value = option_map (λ kind. change.Demosaic kind) (demosaic_of value)
+change_of key.Wb value = option_map (λ gains. change.Wb gains) (wb_of value)
+change_of key.Exposure value = option_map (λ exposure. change.Exposure exposure) (exposure_of value)
+change_of key.Matrix value = option_map (λ choice. change.Matrix choice) (matrix_of value)
+change_of key.Tone value = option_map (λ curve. change.Tone curve) (tone_of value)

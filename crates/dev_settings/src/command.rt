@@ -1,14 +1,15 @@
 //! The commands of a script, one to a line.
 
-ghost use Rattle.std.specs.Prelude.{◌≡◌, ◌≢◌, ◌∷◌, [], length, MatchOption, ok_or};
-ghost use Rattle.dev_settings.specs.Words.{words};
-ghost use Rattle.dev_settings.specs.Commands.{command_of, line_command, region_of, rectangle_of, format_of};
+ghost use Rattle.std.specs.Prelude.{◌≡◌, option_map};
+ghost use Rattle.dev_settings.specs.Commands.{command_of, curve_value_of, format_of, integer_of, key_value_of, rectangle_of, region_of, set_of, stat_of, value_of};
+ghost use Rattle.dev_settings.specs.Shown.{shown};
+ghost use Rattle.dev_settings.specs.Values.{integers_of};
 
-use crate::line::text;
-use crate::word::{first_word, number};
-
-/// The longest line that is read, in bytes, with a carriage return at its end counted.
-pub const MAX_LINE_BYTES: usize = 4096;
+use crate::integers::Integers;
+use crate::key::{Key, key_named};
+use crate::settings::Change;
+use crate::word::{Words, number, signed, unsigned};
+use crate::written::{Written, change};
 
 /// The format of an image.
 #[derive(Clone, Copy, Debug, PartialEq, Eq)]
@@ -20,6 +21,8 @@ pub enum Format {
 /// What a line asks for.
 #[derive(Clone, Copy, Debug, PartialEq, Eq)]
 pub enum Command {
+    /// `set KEY VALUE`: the change of a setting.
+    Set(Change),
     /// `region X Y W H ppm`: the rectangle of `w` columns from `x` and `h` rows from `y`, as an
     /// image. Neither `w` nor `h` is 0; whether the rectangle lies in the plane is for the caller.
     Region {
@@ -29,23 +32,160 @@ pub enum Command {
         h: u32,
         format: Format,
     },
+    /// `stat`: the numbers of the work done so far.
+    Stat,
 }
 
-/// Why a line is refused.
+/// Why a line is refused: its first fault, in this order.
 #[derive(Clone, Copy, Debug, PartialEq, Eq)]
 pub enum LineFault {
-    /// Nothing answers such a line yet.
-    NotYet,
+    /// There is no word, the first isn't that of a command, or there are too few or too many.
+    Word,
+    /// The word after `set` isn't a key.
+    Key,
+    /// The words after the key aren't of its form and range.
+    Value,
+    /// A number of the region is none, its format is none, or its width or height is 0.
+    Region,
 }
 
-/// The five words after `region`.
-#[derive(Clone, Copy)]
-struct RegionWords<'a> {
-    x: &'a [u8],
-    y: &'a [u8],
-    w: &'a [u8],
-    h: &'a [u8],
-    format: &'a [u8],
+impl Command {
+    /// The command that the text of a line gives, its carriage return already taken off.
+    pub fn read(line: &[u8]) -> Result<Self, LineFault>
+        ensures { result ≡ command_of line.now }
+    {
+        let mut words = Words::of(line);
+        match words.next() {
+            Some(word) if word == b"set".as_slice() => set(&mut words),
+            Some(word) if word == b"region".as_slice() => region(&mut words),
+            Some(word) if word == b"stat".as_slice() => stat(&words),
+            _ => Err(LineFault::Word),
+        }
+    }
+}
+
+/// The command of the words after `set`.
+fn set(words: &mut Words<'_>) -> Result<Command, LineFault>
+    ensures { result ≡ set_of words.old }
+{
+    let Some(word) = words.next() else {
+        return Err(LineFault::Word);
+    };
+    let Some(key) = key_named(word) else {
+        return Err(LineFault::Key);
+    };
+    let Some(value) = key_value(key, words) else {
+        return Err(LineFault::Value);
+    };
+    match change(key, &value) {
+        Some(change) => Ok(Command::Set(change)),
+        None => Err(LineFault::Value),
+    }
+}
+
+/// The value that the words after a key give.
+fn key_value<'a>(key: Key, words: &mut Words<'a>) -> Option<Written<'a>>
+    ensures { option_map shown result ≡ key_value_of key words.old }
+{
+    match key {
+        Key::Matrix => value(words, true),
+        Key::Tone => curve_value(words),
+        _ => value(words, false),
+    }
+}
+
+/// The value that words give. A minus sign may stand before an integer where `minus` says so.
+fn value<'a>(words: &mut Words<'a>, minus: bool) -> Option<Written<'a>>
+    ensures { option_map shown result ≡ value_of minus words.old }
+{
+    let Some(word) = words.only() else {
+        return Some(Written::List(integers(words, minus)?));
+    };
+    match integer(word, minus) {
+        Some(integer) => Some(Written::Integer(integer)),
+        None => Some(Written::Name(word)),
+    }
+}
+
+/// The curve that words give.
+fn curve_value<'a>(words: &mut Words<'a>) -> Option<Written<'a>>
+    ensures { option_map shown result ≡ curve_value_of words.old }
+{
+    let word = words.next()?;
+    if word == b"knots".as_slice() {
+        Some(Written::List(integers(words, false)?))
+    } else if words.is_done() {
+        Some(Written::Name(word))
+    } else {
+        None
+    }
+}
+
+/// The integers that words write.
+fn integers(words: &mut Words<'_>, minus: bool) -> Option<Integers>
+    ensures { result ≡ integers_of (integer_of minus) words.old }
+{
+    let mut list = Integers::new();
+    while let Some(word) = words.next() {
+        if list.is_full() {
+            return None;
+        }
+        let integer = integer(word, minus)?;
+        list.push(integer);
+    }
+    Some(list)
+}
+
+/// The integer that a word writes.
+fn integer(word: &[u8], minus: bool) -> Option<i64>
+    ensures { result ≡ integer_of minus word.now }
+{
+    if minus { signed(word) } else { unsigned(word) }
+}
+
+/// The command of the words after `region`.
+fn region(words: &mut Words<'_>) -> Result<Command, LineFault>
+    ensures { result ≡ region_of words.old }
+{
+    let (Some(x), Some(y), Some(w), Some(h), Some(format)) = (
+        words.next(),
+        words.next(),
+        words.next(),
+        words.next(),
+        words.only(),
+    ) else {
+        return Err(LineFault::Word);
+    };
+    match rectangle(x, y, w, h, format) {
+        Some(region) => Ok(region),
+        None => Err(LineFault::Region),
+    }
+}
+
+/// The region that the words X Y W H FORMAT name.
+fn rectangle(x: &[u8], y: &[u8], w: &[u8], h: &[u8], format: &[u8]) -> Option<Command>
+    ensures { result ≡ rectangle_of x.now y.now w.now h.now format.now }
+{
+    let x = number(x)?;
+    let y = number(y)?;
+    let w = number(w)?;
+    let h = number(h)?;
+    let format = Format::named(format)?;
+    if w == 0 || h == 0 {
+        return None;
+    }
+    Some(Command::Region { x, y, w, h, format })
+}
+
+/// The command of the words after `stat`.
+fn stat(words: &Words<'_>) -> Result<Command, LineFault>
+    ensures { result ≡ stat_of words.now }
+{
+    if words.is_done() {
+        Ok(Command::Stat)
+    } else {
+        Err(LineFault::Word)
+    }
 }
 
 impl Format {
@@ -59,72 +199,4 @@ impl Format {
             None
         }
     }
-}
-
-impl<'a> RegionWords<'a> {
-    /// The five words of a text that has exactly five.
-    fn read(text: &'a [u8]) -> Option<Self>
-        ensures { MatchOption result (length (words text.now) ≢ 5)
-            (λ r. words text.now
-            ≡ r.x.now ∷ r.y.now ∷ r.w.now ∷ r.h.now ∷ r.format.now ∷ []) }
-    {
-        let (x, rest) = first_word(text)?;
-        let (y, rest) = first_word(rest)?;
-        let (w, rest) = first_word(rest)?;
-        let (h, rest) = first_word(rest)?;
-        let (format, rest) = first_word(rest)?;
-        if first_word(rest).is_some() {
-            return None;
-        }
-        Some(RegionWords { x, y, w, h, format })
-    }
-
-    /// The command of these words.
-    fn command(&self) -> Option<Command>
-        ensures { result ≡ rectangle_of self.now.x.now self.now.y.now self.now.w.now self.now.h.now
-            self.now.format.now }
-    {
-        let x = number(self.x)?;
-        let y = number(self.y)?;
-        let w = number(self.w)?;
-        let h = number(self.h)?;
-        let format = Format::named(self.format)?;
-        if w == 0 || h == 0 {
-            return None;
-        }
-        Some(Command::Region { x, y, w, h, format })
-    }
-}
-
-impl Command {
-    /// The command that the text of a line gives, its carriage return already taken off.
-    pub fn read(line: &[u8]) -> Result<Self, LineFault>
-        ensures { result ≡ command_of line.now }
-    {
-        match first_word(line) {
-            Some((word, rest)) if word == b"region".as_slice() => region(rest),
-            _ => Err(LineFault::NotYet),
-        }
-    }
-
-    /// The command of a line of a script: of at most [`MAX_LINE_BYTES`] bytes, and with a carriage
-    /// return at its end or without.
-    pub fn of_line(line: &[u8]) -> Result<Self, LineFault>
-        ensures { result ≡ line_command line.now }
-    {
-        if line.len() > MAX_LINE_BYTES {
-            return Err(LineFault::NotYet);
-        }
-        Self::read(text(line))
-    }
-}
-
-/// The command of a line that begins with `region`, from what follows that word.
-fn region(rest: &[u8]) -> Result<Command, LineFault>
-    ensures { result ≡ region_of (words rest.now) }
-{
-    let Some(words) = RegionWords::read(rest) else {
-        return Err(LineFault::NotYet);
-    };
-    words.command().ok_or(LineFault::NotYet)
 }

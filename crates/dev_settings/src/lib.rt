@@ -2,12 +2,15 @@
 #![tactic(auto)]
 
 mod command;
+mod integers;
+mod key;
 mod line;
 mod settings;
 mod word;
+mod written;
 
-pub use command::{Command, Format, LineFault, MAX_LINE_BYTES};
-pub use line::split_line;
+pub use command::{Command, Format, LineFault};
+pub use line::{MAX_LINE_BYTES, line_text, split_line};
 pub use settings::{Change, MatrixChoice, Settings};
 
 #[cfg(test)]

@@ -1,7 +1,10 @@
 //! The lines of a script.
 
-ghost use Rattle.std.specs.Prelude.{◌≡◌, ◌==◌, ◌↔◌, ◌++◌, ◌∷◌, IsSome, IfSome, MatchOption, Contains, position};
-ghost use Rattle.dev_settings.specs.Lines.{lines_of, unended, with_first, text_of};
+ghost use Rattle.std.specs.Prelude.{◌≡◌, ◌==◌, ◌↔◌, ◌++◌, ◌∷◌, IsSome, IfSome, MatchOption, Contains, option_map, position};
+ghost use Rattle.dev_settings.specs.Lines.{line_text_of, lines_of, unended, with_first};
+
+/// The longest line that is read, in bytes, with a carriage return at its end counted.
+pub const MAX_LINE_BYTES: usize = 4096;
 
 /// The first line of a script, without the line feed that ends it, and the bytes after that line
 /// feed. `None` where no line feed stands in the script.
@@ -22,12 +25,16 @@ fn line_end(bytes: &[u8]) -> Option<usize>
     bytes.iter().position(|byte| *byte == b'\n')
 }
 
-/// A line without the carriage return at its end, where it has one.
-pub(crate) fn text(line: &[u8]) -> &[u8]
-    ensures { result.now ≡ text_of line.now }
+/// The text of a line: the carriage return at its end is taken off. `None` where the line has more
+/// than [`MAX_LINE_BYTES`], with a carriage return counted.
+pub fn line_text(line: &[u8]) -> Option<&[u8]>
+    ensures { option_map (λ text. text.now) result ≡ line_text_of line.now }
 {
+    if line.len() > MAX_LINE_BYTES {
+        return None;
+    }
     match line {
-        [front @ .., b'\r'] => front,
-        _ => line,
+        [front @ .., b'\r'] => Some(front),
+        _ => Some(line),
     }
 }

@@ -1,61 +1,232 @@
-use super::{Command, Format, LineFault, MAX_LINE_BYTES, split_line};
+use super::{
+    Change, Command, Format, LineFault, MAX_LINE_BYTES, MatrixChoice, Settings, line_text,
+    split_line,
+};
+use malvar::Kind;
+use std::test::Fail;
+use tone_table::{Curve, Knots};
 
-fn region(x: u32, y: u32, w: u32, h: u32) -> Result<Command, LineFault> {
-    Ok(Command::Region {
+const EMPTY_KNOTS: &str = "set tone knots";
+
+const SIXTEEN_KNOTS: &str =
+    "set tone knots 0 0 1 0 2 0 3 0 4 0 5 0 6 0 7 0 8 0 9 0 10 0 11 0 12 0 13 0 14 0 65535 0";
+
+const SEVENTEEN_KNOTS: &str =
+    "set tone knots 0 0 1 0 2 0 3 0 4 0 5 0 6 0 7 0 8 0 9 0 10 0 11 0 12 0 13 0 14 0 15 0 65535 0";
+
+fn region(x: u32, y: u32, w: u32, h: u32) -> Command {
+    Command::Region {
         x,
         y,
         w,
         h,
         format: Format::Ppm,
-    })
+    }
 }
 
 #[test]
-fn reads_lines(rt: HostRuntime) {
-    let no = Err(LineFault::NotYet);
+fn reads_regions(rt: HostRuntime) {
     for (line, want) in [
         ("region 4 4 3 1 ppm", region(4, 4, 3, 1)),
-        ("region 5 5 1 1 ppm\r", region(5, 5, 1, 1)),
-        ("  region   5 5  1 1 ppm \r", region(5, 5, 1, 1)),
-        ("region 5 5 1 1 ppm\r\r", no),
-        ("region\t5 5 1 1 ppm", no),
+        ("  region   5 5  1 1 ppm ", region(5, 5, 1, 1)),
         ("region 0000000005 5 1 1 ppm", region(5, 5, 1, 1)),
-        ("region 00000000005 5 1 1 ppm", no),
         (
             "region 4294967295 0 1 1 ppm",
             region(4_294_967_295, 0, 1, 1),
         ),
-        ("region 4294967296 0 1 1 ppm", no),
-        ("region 0 0 0 1 ppm", no),
-        ("region 0 0 1 0 ppm", no),
-        ("region +1 0 1 1 ppm", no),
-        ("region 0 0 1 1", no),
-        ("region 0 0 1 1 ppm ppm", no),
-        ("region 0 0 1 1 tiff", no),
-        ("Region 0 0 1 1 ppm", no),
-        ("stat", no),
-        ("", no),
-        ("\r", no),
-        (" ", no),
+        ("stat", Command::Stat),
+        (" stat ", Command::Stat),
     ] {
-        assert_eq!(rt; Command::of_line(line.as_bytes()), want, "{line:?}");
+        assert_eq!(rt; Command::read(line.as_bytes()), Ok(want), "{line:?}");
     }
-    assert_eq!(rt; Command::read(b"region 5 5 1 1 ppm"), region(5, 5, 1, 1));
-    assert_eq!(rt; Command::read(b"region 5 5 1 1 ppm\r"), no);
 }
 
 #[test]
-fn refuses_long_lines(rt: HostRuntime) {
-    let text = b"region 0 0 1 1 ppm";
-    let mut line = [b' '; MAX_LINE_BYTES + 1];
-    line[..text.len()].copy_from_slice(text);
-    assert_eq!(rt; Command::of_line(&line[..4096]), region(0, 0, 1, 1));
-    assert_eq!(rt; Command::of_line(&line), Err(LineFault::NotYet));
-    line[4095] = b'\r';
-    assert_eq!(rt; Command::of_line(&line[..4096]), region(0, 0, 1, 1));
-    line[4095] = b' ';
-    line[4096] = b'\r';
-    assert_eq!(rt; Command::of_line(&line), Err(LineFault::NotYet));
+fn reads_changes(rt: HostRuntime) {
+    for (line, want) in [
+        ("set black frame", Change::Black(None)),
+        ("set black 0", Change::Black(Some(0))),
+        (" set  black 0000065535 ", Change::Black(Some(65535))),
+        ("set white frame", Change::White(None)),
+        ("set white 1", Change::White(Some(1))),
+        ("set white 65535", Change::White(Some(65535))),
+        ("set demosaic malvar", Change::Demosaic(Kind::Malvar)),
+        ("set demosaic bilinear", Change::Demosaic(Kind::Bilinear)),
+        ("set wb shot", Change::Wb(None)),
+        (
+            "set wb 1 1048576 4096",
+            Change::Wb(Some([1, 1_048_576, 4096])),
+        ),
+        ("set exposure 0", Change::Exposure(0)),
+        ("set exposure 65536", Change::Exposure(65536)),
+    ] {
+        assert_eq!(rt;
+            Command::read(line.as_bytes()),
+            Ok(Command::Set(want)),
+            "{line:?}"
+        );
+    }
+}
+
+#[test]
+fn reads_matrices(rt: HostRuntime) {
+    let own = [-16_777_216, 16_777_216, 0, 0, 5, -7, 1, 2, 3];
+    for (line, want) in [
+        ("set matrix auto", MatrixChoice::Auto),
+        ("set matrix camera", MatrixChoice::Camera),
+        ("set matrix forward1", MatrixChoice::Forward1),
+        ("set matrix forward2", MatrixChoice::Forward2),
+        (
+            "set matrix -16777216 16777216 0 -0 5 -7 1 2 3",
+            MatrixChoice::Own(own),
+        ),
+    ] {
+        let want = Ok(Command::Set(Change::Matrix(want)));
+        assert_eq!(rt; Command::read(line.as_bytes()), want, "{line:?}");
+    }
+}
+
+fn curve_of(line: &str) -> Option<Curve> {
+    match Command::read(line.as_bytes()) {
+        Ok(Command::Set(Change::Tone(curve))) => Some(curve),
+        _ => None,
+    }
+}
+
+#[test]
+fn reads_curves(rt: HostRuntime) -> Result<(), Fail> {
+    assert_eq!(rt; curve_of("set tone linear"), Some(Curve::Linear));
+    assert_eq!(rt; curve_of("set tone root"), Some(Curve::Root));
+    let knots = Knots::new(&[(0, 9), (65535, 65535)]).ok_or("knots")?;
+    let want = Some(Curve::Knots(knots));
+    assert_eq!(rt; curve_of("set tone knots 0 9 65535 65535"), want);
+    assert!(rt; curve_of(SIXTEEN_KNOTS).is_some());
+    Ok(())
+}
+
+#[test]
+fn refuses_words_and_keys(rt: HostRuntime) {
+    for (line, want) in [
+        ("", LineFault::Word),
+        ("  ", LineFault::Word),
+        ("Region 0 0 1 1 ppm", LineFault::Word),
+        ("region\t5 5 1 1 ppm", LineFault::Word),
+        ("region 0 0 1 1", LineFault::Word),
+        ("region x 0 1 1 ppm ppm", LineFault::Word),
+        ("stat 1", LineFault::Word),
+        ("set", LineFault::Word),
+        ("sets black 1", LineFault::Word),
+        ("set hue", LineFault::Key),
+        ("set Black 1", LineFault::Key),
+        ("set version 1", LineFault::Key),
+        ("region 4294967296 0 1 1 ppm", LineFault::Region),
+        ("region 00000000005 5 1 1 ppm", LineFault::Region),
+        ("region +1 0 1 1 ppm", LineFault::Region),
+        ("region -0 0 1 1 ppm", LineFault::Region),
+        ("region 0 0 0 1 ppm", LineFault::Region),
+        ("region 0 0 1 0 ppm", LineFault::Region),
+        ("region 0 0 1 1 png", LineFault::Region),
+        ("region 5 5 1 1 ppm\r", LineFault::Region),
+    ] {
+        assert_eq!(rt; Command::read(line.as_bytes()), Err(want), "{line:?}");
+    }
+}
+
+#[test]
+fn refuses_values(rt: HostRuntime) {
+    for line in [
+        "set black",
+        "set black 65536",
+        "set black 00000000001",
+        "set black -0",
+        "set black 1 2",
+        "set black shot",
+        "set white 0",
+        "set white 65536",
+        "set demosaic linear",
+        "set demosaic",
+        "set wb 0 1 1",
+        "set wb 1 1048577 1",
+        "set wb 1 1",
+        "set wb 1 1 1 1",
+        "set wb 1",
+        "set exposure 65537",
+        "set exposure x",
+        "set exposure",
+        "set matrix own",
+        "set matrix 1 2 3 4 5 6 7 8",
+        "set matrix 1 2 3 4 5 6 7 8 9 10",
+        "set matrix 16777217 2 3 4 5 6 7 8 9",
+        "set matrix 1 2 3 4 5 6 7 8 -16777217",
+        "set matrix 1 2 3 4 5 6 7 8 --9",
+        "set matrix 1 2 3 4 5 6 7 8 -",
+    ] {
+        assert_eq!(rt;
+            Command::read(line.as_bytes()),
+            Err(LineFault::Value),
+            "{line:?}"
+        );
+    }
+}
+
+#[test]
+fn refuses_curves(rt: HostRuntime) {
+    for line in [
+        "set tone",
+        "set tone gamma",
+        "set tone linear 1",
+        "set tone 0 0 65535 9",
+        EMPTY_KNOTS,
+        "set tone knots 0 0",
+        "set tone knots 0 0 65535",
+        "set tone knots 0 0 65535 65536",
+        "set tone knots 0 0 65535 -0",
+        "set tone knots 0 0 0 5 65535 9",
+        "set tone knots 1 0 65535 9",
+        "set tone knots 0 0 65534 9",
+        SEVENTEEN_KNOTS,
+    ] {
+        assert_eq!(rt;
+            Command::read(line.as_bytes()),
+            Err(LineFault::Value),
+            "{line:?}"
+        );
+    }
+}
+
+#[test]
+fn changes_one_setting(rt: HostRuntime) {
+    let mut settings = Settings::standard();
+    settings.apply(&Change::White(Some(4095)));
+    settings.apply(&Change::Exposure(2048));
+    settings.apply(&Change::White(None));
+    settings.apply(&Change::Wb(Some([1, 2, 3])));
+    let want = Settings {
+        exposure: 2048,
+        wb: Some([1, 2, 3]),
+        ..Settings::standard()
+    };
+    assert_eq!(rt; settings, want);
+}
+
+#[test]
+fn takes_the_text_of_a_line(rt: HostRuntime) {
+    for (line, want) in [
+        ("a\r", "a"),
+        ("a", "a"),
+        ("\r\r", "\r"),
+        ("\r", ""),
+        ("", ""),
+    ] {
+        assert_eq!(rt;
+            line_text(line.as_bytes()),
+            Some(want.as_bytes()),
+            "{line:?}"
+        );
+    }
+    let line = [b' '; MAX_LINE_BYTES + 1];
+    assert_eq!(rt; line_text(&line[..4096]).map(|text| text.len()), Some(4096));
+    assert_eq!(rt; line_text(&line), None);
 }
 
 #[test]
