@@ -1,4 +1,6 @@
+pub mod Answers
 pub mod Commands
+pub mod File
 pub mod Keys
 pub mod LineLaws
 pub mod Lines

@@ -2,6 +2,7 @@
 #![tactic(auto)]
 
 mod command;
+mod file;
 mod integers;
 mod key;
 mod line;
@@ -10,6 +11,7 @@ mod word;
 mod written;
 
 pub use command::{Command, Format, LineFault};
+pub use file::SettingsFault;
 pub use line::{MAX_LINE_BYTES, line_text, split_line};
 pub use settings::{Change, MatrixChoice, Settings};
 

@@ -3,6 +3,7 @@ use super::{
     split_line,
 };
 use malvar::Kind;
+use std::alloc::{AllocError, Global};
 use std::test::Fail;
 use tone_table::{Curve, Knots};
 
@@ -242,4 +243,77 @@ fn splits_lines(rt: HostRuntime) {
     for script in ["", "a", "a\r"] {
         assert_eq!(rt; split_line(script.as_bytes()), None, "{script:?}");
     }
+}
+
+/// The least value of each key.
+const LEAST: &str = "\
+black = 0
+white = 1
+demosaic = 'bilinear'
+wb = [1, 1, 1]
+exposure = 0
+matrix = [-16777216, 0, 0, 0, 0, 0, 0, 0, 0]
+tone = [0, 0, 65535, 0]
+version = 1
+";
+
+#[test]
+fn reads_files(rt: HostRuntime) -> Result<(), Fail> {
+    let alloc = rt.alloc();
+    let standard = Settings::standard();
+    assert!(rt; Settings::from_toml(alloc, b"") == Ok(standard));
+    let frames =
+        b"black = 'frame'\nwhite = 'frame'\nwb = 'shot'\nmatrix = 'auto'\ntone = 'linear'\n";
+    assert!(rt; Settings::from_toml(alloc, frames) == Ok(standard));
+    let least = Settings {
+        version: 1,
+        black: Some(0),
+        white: Some(1),
+        demosaic: Kind::Bilinear,
+        wb: Some([1, 1, 1]),
+        exposure: 0,
+        matrix: MatrixChoice::Own([-16_777_216, 0, 0, 0, 0, 0, 0, 0, 0]),
+        tone: Curve::Knots(Knots::new(&[(0, 0), (65535, 0)]).ok_or("knots")?),
+    };
+    assert!(rt; Settings::from_toml(alloc, LEAST.as_bytes()) == Ok(least));
+    Ok(())
+}
+
+fn refusal(alloc: Global, file: &[u8]) -> Result<String, AllocError> {
+    match Settings::from_toml(alloc, file) {
+        Ok(_) => String::from_str(alloc, "accepted"),
+        Err(fault) => format!(in alloc; "{fault}"),
+    }
+}
+
+#[test]
+fn refuses_files(rt: HostRuntime) -> Result<(), AllocError> {
+    for (file, want) in [
+        ("x =", "not a TOML document"),
+        ("tone = 'root'\ntone = 'root'", "not a TOML document"),
+        ("tint = 1", "an unknown key: tint"),
+        ("zeta = 1\nalpha = 2\nversion = 2", "an unknown key: alpha"),
+        ("black.x = 1\nhue.y = 2", "an unknown key: hue"),
+        ("tone = 'gamma'\nversion = 2", "a wrong value: version"),
+        ("tone = 'gamma'", "a wrong value: tone"),
+        ("tone = [0, 7, 65535]", "a wrong value: tone"),
+        ("tone = 'gamma'\nmatrix = 'own'", "a wrong value: matrix"),
+        ("[black]", "a wrong value: black"),
+        ("black = true", "a wrong value: black"),
+        ("black = 65536", "a wrong value: black"),
+        ("white = 0", "a wrong value: white"),
+        ("demosaic = 1", "a wrong value: demosaic"),
+        ("wb = [1, 1]", "a wrong value: wb"),
+        ("wb = [1, 0, 1]", "a wrong value: wb"),
+        ("exposure = 65537", "a wrong value: exposure"),
+        ("exposure = 1.0", "a wrong value: exposure"),
+        ("exposure = -1", "a wrong value: exposure"),
+        ("exposure = 65536", "accepted"),
+    ] {
+        let text = refusal(rt.alloc(), file.as_bytes())?;
+        assert!(rt; text.as_str() == want, "{file}");
+    }
+    let text = refusal(rt.alloc(), b"# \xff")?;
+    assert!(rt; text.as_str() == "not a TOML document");
+    Ok(())
 }
