@@ -2,11 +2,12 @@
 use Rattle.std.specs.Prelude.{ℕ, ◌+◌, ◌^◌, nat_le, ◌&&◌, if◌then◌else◌, List, ◌++◌, length, Option, None, Some, Result, Ok, Err, codes}
 use Rattle.plane_view.specs.Plane.{Plane, crop}
 use Rattle.plane_view.specs.declared.Rect.{Rect}
-use Rattle.dev_settings.specs.Commands.{line_command}
+use Rattle.dev_settings.specs.Commands.{command_of}
 use Rattle.dev_settings.specs.declared.command.Format.{Format}
 use Rattle.dev_settings.specs.declared.command.Command.{Command}
 use Rattle.dev_settings.specs.declared.command.Command.TheVariants.{Region}
 use Rattle.dev_settings.specs.declared.command.LineFault.{LineFault}
+use Rattle.dev_settings.specs.Lines.{line_text_of}
 use Rattle.image_out.specs.Image.{image_of, reply_head_of}
 use Rattle.developer.specs.Answers.{Answer}
 use Rattle.developer.specs.Develop.{develop}
@@ -41,7 +42,12 @@ region_reply P format None = no_yet
 -- the reply to a command, over the developed plane
 unfoldable pub command_reply : Plane → Result Command LineFault → List ℕ
 command_reply P (Ok (Region x y w h format)) = region_reply P format (part_of P x y w h)
-command_reply P (Err fault) = no_yet
+command_reply P _ = no_yet
+
+-- the reply to a line, by its text
+unfoldable pub line_reply : Plane → Option (List ℕ) → List ℕ
+line_reply P (Some text) = command_reply P (command_of text)
+line_reply P None = no_yet
 
 -- what the lines before the first have changed: nothing
 abbrev pub first_state : State
@@ -50,7 +56,7 @@ first_state = record {}
 -- the answer to a line of the script, over an opened frame
 unfoldable pub answer_of : Opened → State → List ℕ → Answer State
 answer_of frame state line =
-    record { bytes = command_reply (develop frame.bytes frame.frame) (line_command line); state = state }
+    record { bytes = line_reply (develop frame.bytes frame.frame) (line_text_of line); state = state }
 
 -- no answer has more bytes
 abbrev pub max_answer : ℕ

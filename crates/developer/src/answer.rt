@@ -11,7 +11,7 @@ ghost use Rattle.developer.specs.Writes.{Writes};
 use crate::develop::Developed;
 use crate::opening::OpenedFrame;
 use crate::writing::{write_bytes, write_piece};
-use dev_settings::{Command, Format, LineFault};
+use dev_settings::{Command, Format, LineFault, line_text};
 use image_out::{Piece, pixmap_head, reply_line};
 use plane_view::Rect;
 use raw_io::{Sink, WriteFault};
@@ -33,7 +33,7 @@ impl State {
 }
 
 /// Answers a line of the script, and gives the number of bytes of the answer.
-#[tactic(auto, unfolding(crate::specs::Replies::answer_of))]
+#[tactic(auto, unfolding(crate::specs::Replies::answer_of, crate::specs::Replies::line_reply))]
 pub(crate) fn answer_line<O: Sink>(
     frame: &OpenedFrame,
     state: &mut State,
@@ -46,7 +46,10 @@ pub(crate) fn answer_line<O: Sink>(
     ensures short { length (answer_of frame.now state.old line.now).bytes ≤ max_answer }
 {
     let State = *state;
-    write_reply(frame.plane(), Command::of_line(line), piece, out)
+    match line_text(line) {
+        Some(text) => write_reply(frame.plane(), Command::read(text), piece, out),
+        None => write_bytes(NO_YET, out),
+    }
 }
 
 /// Writes the reply to a command.
@@ -64,7 +67,7 @@ fn write_reply<O: Sink>(
         Ok(Command::Region { x, y, w, h, format }) => {
             write_region(plane, plane.part(x, y, w, h), format, piece, out)
         }
-        Err(_) => write_bytes(NO_YET, out),
+        Ok(Command::Set(_) | Command::Stat) | Err(_) => write_bytes(NO_YET, out),
     }
 }
 
