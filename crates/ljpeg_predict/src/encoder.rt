@@ -264,7 +264,9 @@ pub fn encode(
     requires seven { predictor ≤ 7 }
     requires columns { 1 ≤ cols }
     requires few_columns { cols < 2 ^ 16 }
-    requires lines { (lines : ℕ) × (1 ≤ lines) × (lines < 2 ^ 16) × (length samples.now ≡ lines * cols) }
+    requires whole_lines { length samples.now % cols ≡ 0 }
+    requires lines { 1 ≤ length samples.now / cols }
+    requires few_lines { length samples.now / cols < 2 ^ 16 }
     ensures ok { OnOk result (Appends out.old.items out.new.items
         (IsStream samples.now (length samples.now / cols) cols precision predictor)) }
     ensures memory { OnErr result (out.new.items ≡ out.old.items) }
