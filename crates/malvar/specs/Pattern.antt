@@ -9,8 +9,3 @@ colour_at cfa r c = slice_index cfa (r % 2 * 2 + c % 2)
 abbrev pub IsBayer : List ℕ → Type 0
 IsBayer cfa =
     (cfa ≡ 0 ∷ 1 ∷ 1 ∷ 2 ∷ []) ⊎ ((cfa ≡ 2 ∷ 1 ∷ 1 ∷ 0 ∷ []) ⊎ ((cfa ≡ 1 ∷ 0 ∷ 2 ∷ 1 ∷ []) ⊎ (cfa ≡ 1 ∷ 2 ∷ 0 ∷ 1 ∷ [])))
-
--- colours that stand side by side: green beside red or blue
-abbrev pub IsBeside : ℕ → ℕ → Type 0
-IsBeside own next =
-    ((own ≡ 1) × ((next ≡ 0) ⊎ (next ≡ 2))) ⊎ (((own ≡ 0) ⊎ (own ≡ 2)) × (next ≡ 1))
