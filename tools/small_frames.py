@@ -67,7 +67,7 @@ def frame(depth, order, rows, cols, shared=False, short=0):
 
 
 def literal(data):
-    lines = ["".join(f"\\x{b:02X}" for b in data[i:i + 26]) for i in range(0, len(data), 26)]
+    lines = ["".join(f"\\x{b:02X}" for b in data[i:i + 24]) for i in range(0, len(data), 24)]
     return 'b"' + "\\\n        ".join(lines) + '"'
 
 
