@@ -5,4 +5,5 @@ pub mod LineLemmas
 pub mod Order
 pub mod PlaceLemmas
 pub mod Points
+pub mod RangeLemmas
 pub mod WordLemmas

@@ -4,6 +4,7 @@ pub mod File
 pub mod Keys
 pub mod LineLaws
 pub mod Lines
+pub mod Ranges
 pub mod Settings
 pub mod Shown
 pub mod Values

@@ -1,7 +1,8 @@
 //! The commands of a script, one to a line.
 
-ghost use Rattle.std.specs.Prelude.{◌≡◌, option_map};
+ghost use Rattle.std.specs.Prelude.{◌≡◌, option_map, IfOk};
 ghost use Rattle.dev_settings.specs.Commands.{command_of, curve_value_of, format_of, integer_of, key_value_of, rectangle_of, region_of, set_of, stat_of, value_of};
+ghost use Rattle.dev_settings.specs.Ranges.{CommandInRange};
 ghost use Rattle.dev_settings.specs.Shown.{shown};
 ghost use Rattle.dev_settings.specs.Values.{integers_of};
 
@@ -52,7 +53,8 @@ pub enum LineFault {
 impl Command {
     /// The command that the text of a line gives, its carriage return already taken off.
     pub fn read(line: &[u8]) -> Result<Self, LineFault>
-        ensures { result ≡ command_of line.now }
+        ensures command { result ≡ command_of line.now }
+        ensures in_range { IfOk result CommandInRange }
     {
         let mut words = Words::of(line);
         match words.next() {

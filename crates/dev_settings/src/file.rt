@@ -1,11 +1,12 @@
 //! Settings files.
 
-ghost use Rattle.std.specs.Prelude.{◌≡◌, IfErr, IfSome, option_and_then, option_map};
+ghost use Rattle.std.specs.Prelude.{◌≡◌, IfErr, IfOk, IfSome, option_and_then, option_map};
 ghost use Rattle.toml.specs.Data.{as_integer, get_member};
 ghost use Rattle.toml.specs.View.{items_view, table_view, view};
 ghost use Rattle.dev_settings.specs.Answers.{Answers, IsRefusal, NamesLeastUnknown, ReadsDocument};
 ghost use Rattle.dev_settings.specs.File.{IsLeastUnknown, data_value_of, document_of, first_unknown, is_known, is_version_one, listed, settings_from, settings_of, unknown_key, wrong_value};
 ghost use Rattle.dev_settings.specs.Keys.{keys};
+ghost use Rattle.dev_settings.specs.Ranges.{SettingsInRange};
 ghost use Rattle.dev_settings.specs.Settings.{standard_settings};
 ghost use Rattle.dev_settings.specs.Shown.{shown};
 ghost use Rattle.dev_settings.specs.Values.{change_of, integers_of};
@@ -40,6 +41,7 @@ impl Settings {
     pub fn from_toml(alloc: Global, bytes: &[u8]) -> Result<Settings, SettingsFault>
         ensures answer { Answers (settings_of bytes.now) result }
         ensures least { IfErr result (NamesLeastUnknown (document_of bytes.now)) }
+        ensures in_range { IfOk result SettingsInRange }
     {
         let table = match document(alloc, bytes) {
             Ok(table) => table,

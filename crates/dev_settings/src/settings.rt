@@ -53,11 +53,13 @@ pub enum Change {
 
 impl Settings {
     ghost use Rattle.std.specs.Prelude.{◌≡◌};
+    ghost use Rattle.dev_settings.specs.Ranges.{ChangeInRange, SettingsInRange};
     ghost use Rattle.dev_settings.specs.Settings.{changed, standard_settings};
 
     /// The settings where nothing is set.
     pub fn standard() -> Self
-        ensures { result ≡ standard_settings }
+        ensures settings { result ≡ standard_settings }
+        ensures in_range { SettingsInRange result }
     {
         Settings {
             version: 1,
@@ -73,7 +75,8 @@ impl Settings {
 
     /// Makes a change: that setting is replaced, the others stay.
     pub fn apply(&mut self, change: &Change)
-        ensures { self.new ≡ changed change.now self.old }
+        ensures settings { self.new ≡ changed change.now self.old }
+        ensures in_range { SettingsInRange self.old → ChangeInRange change.now → SettingsInRange self.new }
     {
         match *change {
             Change::Black(black) => self.black = black,

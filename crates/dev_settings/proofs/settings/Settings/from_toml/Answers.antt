@@ -5,6 +5,7 @@ use Rattle.std.proofs.Common.{true, false}
 use Rattle.dev_settings.specs.File.{is_version_one, unknown_key, wrong_value}
 use Rattle.dev_settings.specs.Keys.{name_of}
 use Rattle.dev_settings.proofs.FileLemmas.{IsFaultOf-refusal, NamesLeastUnknown-key, NamesLeastUnknown-none, NamesLeastUnknown-value, settings_of-keys, settings_of-known, settings_of-no_document, settings_of-version}
+use Rattle.dev_settings.proofs.RangeLemmas.{keys_range}
 use Rattle.dev_settings.proofs.settings.Settings.from_toml.Goals as goal
 
 pub returns-in-Err-clause-answer : goal.returns-in-Err-clause-answer
@@ -49,3 +50,6 @@ returns-then-not-is_version_one-clause-least c = NamesLeastUnknown-value _ (code
 pub returns-clause-least : goal.returns-clause-least
 returns-clause-least c =
     NamesLeastUnknown-value _ (name_of c.in-Err-settings.key) c.value_fault-in-Err-settings.result (rw (← c.name.ensures) c.value_fault-in-Err-settings.ensures)
+
+pub returns-in-Ok-settings-clause-in_range : goal.returns-in-Ok-settings-clause-in_range
+returns-in-Ok-settings-clause-in_range c = keys_range (table_view c.in-Ok.table) _ c.in-Ok-settings.ensures

@@ -1,0 +1,51 @@
+-- The ranges of settings, which are this project's own.
+use Rattle.std.specs.Prelude.{◌≡◌, ⊤, ℕ, ℤ, pos, neg_ℤ, ◌≤◌, ◌≤ℤ◌, All, IfSome, IsTrue}
+use Rattle.tone_table.specs.Knots.{are_knots}
+use Rattle.tone_table.specs.declared.Curve.{Curve}
+use Rattle.tone_table.specs.declared.Curve.TheVariants.{Linear, Root, Knots}
+use Rattle.dev_settings.specs.declared.command.Command.{Command}
+use Rattle.dev_settings.specs.declared.command.Command.TheVariants.{Set, Region, Stat}
+use Rattle.dev_settings.specs.declared.settings.Settings.{Settings}
+use Rattle.dev_settings.specs.declared.settings.MatrixChoice.{MatrixChoice}
+use Rattle.dev_settings.specs.declared.settings.MatrixChoice.TheVariants.{Auto, Camera, Forward1, Forward2, Own}
+use Rattle.dev_settings.specs.declared.settings.Change.{Change}
+use Rattle.dev_settings.specs.declared.settings.Change.TheVariants.{Black, White, Demosaic, Wb, Exposure, Matrix, Tone}
+
+-- a gain in 4096ths
+abbrev pub IsGain : ℕ → Type 0
+IsGain gain = (1 ≤ gain) × (gain ≤ 1048576)
+
+-- an entry of a matrix, in 65536ths
+abbrev pub IsEntry : ℤ → Type 0
+IsEntry entry = (neg_ℤ (pos 16777216) ≤ℤ entry) × (entry ≤ℤ pos 16777216)
+
+abbrev pub MatrixInRange : MatrixChoice → Type 0
+MatrixInRange (Own entries) = All IsEntry entries
+MatrixInRange _ = ⊤
+
+abbrev pub CurveInRange : Curve → Type 0
+CurveInRange (Knots points) = IsTrue (are_knots points)
+CurveInRange _ = ⊤
+
+-- the new value of a setting is in its range
+abbrev pub ChangeInRange : Change → Type 0
+ChangeInRange (White white) = IfSome white (λ level. 1 ≤ level)
+ChangeInRange (Wb gains) = IfSome gains (All IsGain)
+ChangeInRange (Exposure exposure) = exposure ≤ 65536
+ChangeInRange (Matrix choice) = MatrixInRange choice
+ChangeInRange (Tone curve) = CurveInRange curve
+ChangeInRange _ = ⊤
+
+-- each setting is in its range
+pub record SettingsInRange (settings : Settings) : Type 0 where
+  pub version : settings.version ≡ 1
+  pub white : ChangeInRange (White settings.white)
+  pub wb : ChangeInRange (Wb settings.wb)
+  pub exposure : settings.exposure ≤ 65536
+  pub matrix : MatrixInRange settings.matrix
+  pub tone : CurveInRange settings.tone
+
+-- a change that a line asks for is in its range
+abbrev pub CommandInRange : Command → Type 0
+CommandInRange (Set change) = ChangeInRange change
+CommandInRange _ = ⊤
