@@ -283,13 +283,20 @@ fn read(alloc: Global, bytes: &[u8]) -> Result<Frame, FrameFault> {
     read_frame(alloc, bytes)
 }
 
+// Whether a file is refused for this.
+fn is_refused(answer: Result<Frame, FrameFault>, want: FrameFault) -> bool {
+    match answer {
+        Ok(_) => false,
+        Err(fault) => fault == want,
+    }
+}
+
 // The first row that is refused otherwise than it says.
 fn first_wrong(alloc: Global, rows: &[Row]) -> Result<Option<usize>, AllocError> {
     for (i, row) in rows.iter().enumerate() {
         let bytes = changed(alloc, row.0, Order::Little)?;
-        match read(alloc, &bytes) {
-            Err(fault) if fault == row.1 => {}
-            _ => return Ok(Some(i)),
+        if !is_refused(read(alloc, &bytes), row.1) {
+            return Ok(Some(i));
         }
     }
     Ok(None)
@@ -302,11 +309,9 @@ fn refuses(rt: HostRuntime) -> Result<(), Fail> {
     assert_eq!(rt; first_wrong(alloc, segments_and_pattern())?, None);
     assert_eq!(rt; first_wrong(alloc, levels_and_crop())?, None);
     assert_eq!(rt; first_wrong(alloc, colours())?, None);
-    assert_eq!(rt; read(alloc, b"").err(), Some(F::NotTiff));
-    assert_eq!(rt;
-        read(alloc, b"II*\0\x08\0\0\0\x01\0").err(),
-        Some(F::BadDirectory { at: 8 })
-    );
+    assert!(rt; is_refused(read(alloc, b""), F::NotTiff));
+    let cut = b"II*\0\x08\0\0\0\x01\0";
+    assert!(rt; is_refused(read(alloc, cut), F::BadDirectory { at: 8 }));
     Ok(())
 }
 
