@@ -4,7 +4,7 @@ use super::*;
 use lists::Items;
 use std::alloc::{AllocError, Global};
 use std::test::Fail;
-use test_frames::{bright_red, flat};
+use test_frames::{TestFrame, bright_red, flat};
 use text_line::Line;
 use tiff_dirs::Order;
 use tiff_write::{Field, Value};
@@ -410,24 +410,29 @@ fn cuts_images(rt: HostRuntime) -> Result<(), Fail> {
     Ok(())
 }
 
+// Whether a frame is read, has as many rows and columns as `side`, and can be developed.
+fn is_developed(
+    alloc: Global,
+    frame: TestFrame,
+    order: Order,
+    side: u32,
+) -> Result<bool, AllocError> {
+    let bytes = frame.bytes(alloc, order)?;
+    match read(alloc, &bytes) {
+        Ok(frame) => Ok(frame.shape.rows == side && frame.shape.cols == side && frame.is_built()),
+        Err(_) => Ok(false),
+    }
+}
+
 #[test]
 fn finds_the_raw_directory(rt: HostRuntime) -> Result<(), Fail> {
     let alloc = rt.alloc();
-    let plain = flat(alloc)?.bytes(alloc, Order::Little)?;
-    let plain = read(alloc, &plain)?;
-    assert!(rt; plain.is_built());
-    let inner = flat(alloc)?
-        .in_sub_directory(alloc)?
-        .bytes(alloc, Order::Big)?;
-    let inner = read(alloc, &inner)?;
-    assert_eq!(rt; inner.shape, plain.shape);
-    assert!(rt; inner.is_built());
-    let twice = flat(alloc)?
-        .and(Field::shorts(alloc, 256, &[9])?)?
-        .bytes(alloc, Order::Little)?;
-    assert_eq!(rt; read(alloc, &twice)?.shape, plain.shape);
-    let red = bright_red(alloc)?.bytes(alloc, Order::Little)?;
-    assert_eq!(rt; read(alloc, &red)?.shape.cols, 8);
+    assert!(rt; is_developed(alloc, flat(alloc)?, Order::Little, 4)?);
+    let inner = flat(alloc)?.in_sub_directory(alloc)?;
+    assert!(rt; is_developed(alloc, inner, Order::Big, 4)?);
+    let twice = flat(alloc)?.and(Field::shorts(alloc, 256, &[9])?)?;
+    assert!(rt; is_developed(alloc, twice, Order::Little, 4)?);
+    assert!(rt; is_developed(alloc, bright_red(alloc)?, Order::Little, 8)?);
     Ok(())
 }
 
