@@ -406,7 +406,7 @@ fn cuts_images(rt: HostRuntime) -> Result<(), Fail> {
     ];
     let frame = read(alloc, &changed(alloc, &tiles, Order::Little)?)?;
     assert!(rt; segments_are(&frame, &[[1, 0, 0, 4, 3, 16, 3], [2, 0, 3, 4, 4, 16, 3]]));
-    assert!(rt; !frame.is_built());
+    assert!(rt; frame.is_built());
     Ok(())
 }
 
