@@ -13,3 +13,5 @@ pub mod WriterLemmas
 pub mod EncodeLemmas
 pub mod LawLemmas
 pub mod HeadLemmas
+pub mod DecodedLemmas
+mod Examples

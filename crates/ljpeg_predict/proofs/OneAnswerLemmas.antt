@@ -72,7 +72,7 @@ module _ (scan : Scan) (free : (place : ℕ) → IsPrefixFree (table_at scan pla
   one_outcome r s xs ys (no_code e x) (no_code f y) = (e ∙ sym f, λ ok. absurd (not_ok r fault.NoCode e ok))
 
 -- a scan that has so many samples
-sized_is : (want : ℕ) (scan other : Scan) → sized want scan ≡ Ok other → (scan ≡ other) × (sample_count other ≡ want)
+pub sized_is : (want : ℕ) (scan other : Scan) → sized want scan ≡ Ok other → (scan ≡ other) × (sample_count other ≡ want)
 unfolding sized
 sized_is want scan other e = by_test (eqb (sample_count scan) want) refl e
   where

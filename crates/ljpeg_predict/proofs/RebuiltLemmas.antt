@@ -3,6 +3,7 @@ use Rattle.std.proofs.Common.{◌≡◌, ℕ, zero, suc, ◌+◌, ◌*◌, ◌<�
 use Rattle.std.proofs.lemmas.Bool.{cases_lt}
 use Rattle.std.proofs.lemmas.List.{ext_get_or, get_or-append-add, get_or_append_left, get_or_past}
 use Rattle.ljpeg_huffman.specs.Differences.{modulo}
+use Rattle.ljpeg_predict.specs.Decoded.{rebuilt_behind}
 use Rattle.ljpeg_predict.specs.Prediction.{IsRebuilt, prediction}
 use Rattle.ljpeg_predict.specs.Scans.{Scan, components, row_length}
 use Rattle.ljpeg_predict.proofs.PredictionLemmas.{prediction_agrees}
@@ -59,11 +60,16 @@ module _ (scan : Scan) (width : 0 < row_length scan) where
         ];
       }
 
-  from : (done : List ℤ) (samples : List ℕ) → IsRebuilt scan done samples → (differences : List ℤ) → (all : List ℕ) × IsRebuilt scan (done ++ differences) all
-  from done samples r [] = (samples, subst (λ ds. IsRebuilt scan ds samples) (sym (append-nil done)) r)
-  from done samples r (d ∷ differences) =
-      let t = from (done ++ d ∷ []) (samples ++ next samples d ∷ []) (more done samples d r) differences in
-      (t.0, subst (λ ds. IsRebuilt scan ds t.0) (append_assoc done (d ∷ []) differences) t.1)
+  -- the samples that are rebuilt behind others
+  pub rebuilt_behind-is : (differences done : List ℤ) (samples : List ℕ) → IsRebuilt scan done samples → IsRebuilt scan (done ++ differences) (rebuilt_behind scan samples differences)
+  unfolding rebuilt_behind
+  rebuilt_behind-is [] done samples r = subst (λ ds. IsRebuilt scan ds samples) (sym (append-nil done)) r
+  rebuilt_behind-is (d ∷ differences) done samples r =
+      subst (λ ds. IsRebuilt scan ds (rebuilt_behind scan (samples ++ next samples d ∷ []) differences)) (append_assoc done (d ∷ []) differences)
+      (rebuilt_behind-is differences (done ++ d ∷ []) (samples ++ next samples d ∷ []) (more done samples d r))
+
+  pub rebuilt_is : (differences : List ℤ) → IsRebuilt scan differences (rebuilt_behind scan [] differences)
+  rebuilt_is differences = rebuilt_behind-is differences [] [] (record { lengths = refl; each = λ k h. absurd (omega arith) })
 
   pub some_list_of_samples : (differences : List ℤ) → (samples : List ℕ) × IsRebuilt scan differences samples
-  some_list_of_samples differences = from [] [] (record { lengths = refl; each = λ k h. absurd (omega arith) }) differences
+  some_list_of_samples differences = (rebuilt_behind scan [] differences, rebuilt_is differences)

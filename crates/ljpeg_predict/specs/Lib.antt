@@ -1,4 +1,5 @@
 pub mod Chain
+pub mod Decoded
 pub mod Encoding
 pub mod Faults
 pub mod Headers

@@ -2,6 +2,7 @@
 #![tactic(auto)]
 
 ghost use Rattle.std.specs.Prelude.{ℕ, ℤ, List, Result, ◌≡◌, ◌+◌, ◌≤◌, ◌<◌, ◌^◌, ◌++◌, length, IsOk};
+ghost use Rattle.ljpeg_predict.specs.Decoded.{decoded, told};
 ghost use Rattle.ljpeg_predict.specs.Faults.{jpeg_fault_name, jpeg_fault_text};
 ghost use Rattle.ljpeg_predict.specs.Prediction.{IsRebuilt};
 ghost use Rattle.ljpeg_predict.specs.Scans.{Scan as AnyScan, row_length};
@@ -62,9 +63,9 @@ pub enum JpegFault {
 impl JpegFault {
     /// Appends the fault's name, and its numbers in decimal, each after a space.
     pub fn say(&self, line: &mut Line)
-        requires { length line.old ≤ 64 }
+        requires { length line.old + 35 ≤ 128 }
         ensures text { line.new ≡ line.old ++ jpeg_fault_text self.now }
-        ensures within { length line.new ≤ length line.old + 32 }
+        ensures within { length line.new ≤ length line.old + 35 }
     {
         line.push(self.name());
         match *self {
@@ -132,4 +133,10 @@ pub fn one_answer()
         → 0 < want
         → IsAnswer bytes want result samples → IsAnswer bytes want other others
         → (result ≡ other) × (IsOk result → samples ≡ others) }
+{}
+
+/// A stream's answer, computed bit by bit: it is the one that the stream definition allows.
+pub fn answer_is_computed()
+    ensures { (bytes : List ℕ) (want : ℕ) (result : Result (Unit {0}) AnyFault) (samples : List ℕ)
+        → 0 < want → IsAnswer bytes want result samples → decoded bytes want ≡ told result samples }
 {}
