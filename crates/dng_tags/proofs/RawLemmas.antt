@@ -5,9 +5,9 @@ use Rattle.std.specs.Option.{option_map_or}
 use Rattle.std.proofs.lemmas.Bool.{cases_Bool, false≢true}
 use Rattle.plane_view.specs.Rectangles.{HasPixel, has_pixel}
 use Rattle.plane_view.proofs.Pixels.{has_pixel-true, pixel_of_test}
-use Rattle.tiff_dirs.specs.declared.Order.{Order}
 use Rattle.dng_tags.specs.declared.faults.FrameFault.{FrameFault}
 use Rattle.dng_tags.specs.declared.faults.SegmentFault.{SegmentFault}
+use Rattle.dng_tags.specs.declared.record.Coding.{Coding}
 use Rattle.dng_tags.specs.declared.record.Segment.{Segment}
 use Rattle.dng_tags.specs.Raw.{coded_place, coded_samples, fault_from, raw_sample, refused_or, segment_fault}
 
@@ -22,9 +22,9 @@ find_only p (y ∷ ys) (suc k) x at pass only =
     ]
 
 -- the raw sample at a pixel of segment k, where no two segments have a pixel in common
-pub raw_sample-at : (bytes : List ℕ) (order : Order) (depth : ℕ) (segments : List Segment) (k : ℕ) (segment : Segment) (r c : ℕ) → ((i j : ℕ) (one other : Segment) → slice_get segments i ≡ Some one → slice_get segments j ≡ Some other → HasPixel one.rect r c → HasPixel other.rect r c → i ≡ j) → slice_get segments k ≡ Some segment → HasPixel segment.rect r c → raw_sample bytes order depth segments r c ≡ slice_index (coded_samples bytes order depth segment) (coded_place segment r c)
+pub raw_sample-at : (bytes : List ℕ) (coding : Coding) (segments : List Segment) (k : ℕ) (segment : Segment) (r c : ℕ) → ((i j : ℕ) (one other : Segment) → slice_get segments i ≡ Some one → slice_get segments j ≡ Some other → HasPixel one.rect r c → HasPixel other.rect r c → i ≡ j) → slice_get segments k ≡ Some segment → HasPixel segment.rect r c → raw_sample bytes coding segments r c ≡ slice_index (coded_samples bytes coding segment) (coded_place segment r c)
 unfolding raw_sample
-raw_sample-at bytes order depth segments k segment r c apart at pixel =
+raw_sample-at bytes coding segments k segment r c apart at pixel =
     let p : Segment → Bool = λ s. has_pixel r c s.rect in
     let found : find p segments ≡ Some segment =
     find_only p segments k segment at (has_pixel-true r c segment.rect pixel)
@@ -32,10 +32,10 @@ raw_sample-at bytes order depth segments k segment r c apart at pixel =
     rw found refl
 
 -- one segment more
-pub fault_from-cons : (bytes : List ℕ) (depth k : ℕ) (segment : Segment) (segments : List Segment) → fault_from bytes depth k (segment ∷ segments) ≡ refused_or k (segment_fault bytes depth segment) (fault_from bytes depth (k + 1) segments)
+pub fault_from-cons : (bytes : List ℕ) (coding : Coding) (k : ℕ) (segment : Segment) (segments : List Segment) → fault_from bytes coding k (segment ∷ segments) ≡ refused_or k (segment_fault bytes coding segment) (fault_from bytes coding (k + 1) segments)
 unfolding fault_from
-fault_from-cons bytes depth k segment segments = refl
+fault_from-cons bytes coding k segment segments = refl
 
-pub fault_from-nil : (bytes : List ℕ) (depth k : ℕ) → fault_from bytes depth k [] ≡ None
+pub fault_from-nil : (bytes : List ℕ) (coding : Coding) (k : ℕ) → fault_from bytes coding k [] ≡ None
 unfolding fault_from
-fault_from-nil bytes depth k = refl
+fault_from-nil bytes coding k = refl

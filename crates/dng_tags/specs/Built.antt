@@ -1,6 +1,6 @@
--- Which frames are developed today: those of packed 16-bit samples with no levels, areas or colours of their own.
+-- Which frames are developed today: those with no levels, areas or colours of their own.
 -- This is this project's own.
-use Rattle.std.specs.Prelude.{ℕ, ◌*◌, ◌==◌, nat_le, ◌&&◌, not, Bool, true, false, ℤ, pos, negsuc, List, [], ◌∷◌, is_none}
+use Rattle.std.specs.Prelude.{ℕ, ◌*◌, ◌==◌, ◌&&◌, Bool, true, false, ℤ, pos, negsuc, List, [], ◌∷◌, is_none}
 use Rattle.std.specs.List.{list_all}
 use Rattle.plane_view.specs.Rectangles.{whole_rect}
 use Rattle.plane_view.specs.declared.Rect.{Rect}
@@ -38,9 +38,7 @@ are_plain_colours colour =
 unfoldable pub is_built : Frame → Bool
 is_built frame =
     let whole = whole_rect frame.shape.rows frame.shape.cols in
-    frame.depth == 16
-    && not frame.lossless
-    && are_plain_levels frame.levels
+    are_plain_levels frame.levels
     && is_same_rect frame.active whole
     && is_same_rect frame.crop whole
     && are_plain_colours frame.colour

@@ -1,10 +1,11 @@
 -- A fault in words and numbers, as a line says it: its name, and its fields in decimal, each after one space. This is this
 -- project's own.
 use Rattle.std.specs.Prelude.{ℕ, List, ◌∷◌, ◌++◌, codes, decimal}
+use Rattle.ljpeg_predict.specs.Faults.{jpeg_fault_text}
 use Rattle.dng_tags.specs.declared.faults.FrameFault.{FrameFault}
 use Rattle.dng_tags.specs.declared.faults.FrameFault.TheVariants.{NotTiff, BadDirectory, BadEntry, FloatTag, NotDng, Newer, NoRaw, Photometric, Compression, Depth, Samples, Size, Layout, Outside, Cfa, Levels, Active, Colour, Crop, Segment, TooLong, Format, NotYet, Memory}
 use Rattle.dng_tags.specs.declared.faults.SegmentFault.{SegmentFault}
-use Rattle.dng_tags.specs.declared.faults.SegmentFault.TheVariants.{Short}
+use Rattle.dng_tags.specs.declared.faults.SegmentFault.TheVariants.{Jpeg, Short}
 
 -- a field
 abbrev pub field : ℕ → List ℕ
@@ -16,6 +17,7 @@ named name n = name ++ field n
 
 abbrev pub segment_fault_text : SegmentFault → List ℕ
 segment_fault_text (Short short) = codes "Short" ++ field short.needed ++ field short.had
+segment_fault_text (Jpeg fault) = codes "Jpeg" ++ 32 ∷ jpeg_fault_text fault
 
 abbrev pub fault_text : FrameFault → List ℕ
 fault_text NotTiff = codes "NotTiff"

@@ -9,9 +9,6 @@ ghost use Rattle.dng_tags.specs.Colours.{is_zero};
 use crate::record::{Colour, Frame, Levels};
 use plane_view::Rect;
 
-/// The depth of the samples that are developed today.
-const DEPTH: u32 = 16;
-
 /// The white level of samples that stay as they are.
 const FULL_WHITE: u32 = 65535;
 
@@ -19,15 +16,13 @@ const FULL_WHITE: u32 = 65535;
 const UNIT_GAIN: u32 = 4096;
 
 impl Frame {
-    /// Whether the frame is developed today: packed samples of 16 bits, with no levels, areas or colours of its own.
+    /// Whether the frame is developed today: no levels, areas or colours of its own.
     #[tactic(auto, unfolding(crate::specs::Built::is_built))]
     pub fn is_built(&self) -> bool
         ensures { result ≡ is_built self.now }
     {
         let whole = self.shape.rect();
-        self.depth == DEPTH
-            && !self.lossless
-            && are_plain_levels(&self.levels)
+        are_plain_levels(&self.levels)
             && is_same_rect(self.active, whole)
             && is_same_rect(self.crop, whole)
             && are_plain_colours(&self.colour)

@@ -3,6 +3,7 @@
 ghost use Rattle.std.specs.Prelude.{◌≡◌, ◌+◌, ◌≤◌, ◌++◌, length};
 ghost use Rattle.dng_tags.specs.FaultText.{fault_text, named, segment_fault_text};
 
+use ljpeg_predict::JpegFault;
 use strip_unpack::Short;
 use text_line::Line;
 
@@ -11,6 +12,8 @@ use text_line::Line;
 pub enum SegmentFault {
     /// It has fewer bytes than its samples take.
     Short(Short),
+    /// Its stream isn't one of so many samples.
+    Jpeg(JpegFault),
 }
 
 /// Why a frame is refused.
@@ -81,6 +84,10 @@ impl SegmentFault {
                 line.push(b"Short");
                 line.push_field(short.needed);
                 line.push_field(short.had);
+            }
+            SegmentFault::Jpeg(fault) => {
+                line.push(b"Jpeg ");
+                fault.say(line);
             }
         }
     }

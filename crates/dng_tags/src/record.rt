@@ -29,6 +29,34 @@ pub struct Frame {
     pub colour: Colour,
 }
 
+impl Frame {
+    ghost use Rattle.std.specs.Prelude.{◌≡◌};
+    ghost use Rattle.dng_tags.specs.Raw.{coding_of};
+
+    /// How the samples of its segments are coded.
+    pub fn coding(&self) -> Coding
+        ensures { result ≡ coding_of self.now }
+    {
+        if self.lossless {
+            Coding::LosslessJpeg
+        } else {
+            Coding::Packed {
+                order: self.order,
+                depth: self.depth,
+            }
+        }
+    }
+}
+
+/// How the samples of segments are coded.
+#[derive(Clone, Copy, Debug, PartialEq, Eq)]
+pub enum Coding {
+    /// Packed, of 8 to 16 bits; two bytes of 16 bits stand in this order.
+    Packed { order: Order, depth: u32 },
+    /// One lossless JPEG stream each.
+    LosslessJpeg,
+}
+
 /// A strip or a tile.
 #[derive(Clone, Copy, Debug, PartialEq, Eq)]
 pub struct Segment {
