@@ -1,0 +1,83 @@
+//! Whole planes, which keep their memory for others.
+
+ghost use Rattle.std.specs.Prelude.{◌≡◌, ◌+◌, ◌-◌, ◌*◌, ◌≤◌, ◌<◌, length, take, drop, IfOk};
+ghost use Rattle.plane_view.specs.Plane.{IsWhole};
+ghost use Rattle.plane_view.specs.Shapes.{IsShape};
+ghost use Rattle.stage_core.specs.Planes.{IsPlane};
+ghost use Rattle.stage_core.specs.Stages.{shape_of};
+ghost use Rattle.stage_chain.specs.Chains.{sample_count};
+
+use plane_view::Shape;
+use stage_core::{Base, Steps, fetch_all};
+use std::alloc::{AllocError, Global};
+use std::marker::Model;
+use std::sync::ledger::Ledger;
+
+/// A whole plane. Contracts see it as a plane of samples.
+#[derive(Drop)]
+pub struct WholePlane {
+    pub(crate) shape: Shape,
+    /// Row by row, the planes of a pixel side by side.
+    pub(crate) samples: Vec<u16>,
+}
+
+impl Model for WholePlane {
+    ghost use Rattle.std.specs.Prelude.{◌≡◌, length};
+    ghost use Rattle.plane_view.specs.Plane.{Plane};
+    ghost use Rattle.plane_view.specs.Shapes.{IsShape};
+    ghost use Rattle.stage_chain.specs.Chains.{sample_count};
+
+    ghost Value = { Plane };
+
+    ghost view = { λ w. record { rows = w.shape.rows; cols = w.shape.cols; planes = w.shape.planes; samples = w.samples.items } };
+
+    ghost invariant = { λ w. IsShape w.shape × (length w.samples.items ≡ sample_count w.shape) };
+}
+
+impl WholePlane {
+    /// Fetches each cell of a base once, in order, and has the base's plane.
+    ///
+    /// # Errors
+    ///
+    /// Where there is no memory; then nothing was fetched.
+    pub fn fetch<B: Base, L: Ledger>(alloc: Global, base: &mut B, work: &mut Steps<L>) -> Result<WholePlane, AllocError>
+        ensures { IfOk result (λ plane. plane ≡ B.plane base.old) }
+    {
+        let shape = base.shape();
+        let mut samples = vec![in alloc; 0u16; sample_count(shape)]?;
+        fetch_all(base, &mut samples, work);
+        Ok(WholePlane { shape, samples })
+    }
+
+    /// Its shape.
+    pub fn shape(&self) -> Shape
+        ensures shape { result ≡ shape_of self.now }
+        ensures limits { IsShape result }
+        ensures plane { IsPlane self.now result }
+    {
+        self.shape
+    }
+
+    /// The samples of the pixels of a row from column `left` up to column `right`, the planes of a pixel side by side.
+    pub fn row(&self, row: u32, left: u32, right: u32) -> &[u16]
+        requires row { row < self.now.rows }
+        requires left { left ≤ right }
+        requires right { right ≤ self.now.cols }
+        ensures samples { result.now ≡ take ((right - left) * self.now.planes)
+            (drop ((row * self.now.cols + left) * self.now.planes) self.now.samples) }
+        ensures length { length result.now ≡ (right - left) * self.now.planes }
+    {
+        let Shape { cols, planes, .. } = self.shape;
+        let first = (row as usize * cols as usize + left as usize) * planes as usize;
+        let count = (right - left) as usize * planes as usize;
+        &self.samples[first..first + count]
+    }
+}
+
+/// How many samples a plane of a shape has.
+pub(crate) fn sample_count(shape: Shape) -> usize
+    requires { IsShape shape }
+    ensures { result ≡ sample_count shape }
+{
+    shape.rows as usize * shape.cols as usize * shape.planes as usize
+}
