@@ -22,3 +22,4 @@ mod values;
 pub use faults::{FrameFault, MAX_FAULT_TEXT, SegmentFault};
 pub use frame::{MAX_BYTES, read_frame};
 pub use record::{Coding, Colour, Frame, Levels, Segment};
+pub use span::greatest_black;

@@ -21,9 +21,9 @@ pub fn span(levels: &Levels, rows: u32, cols: u32) -> i64
     i64::from(256 * levels.white) - greatest_black(levels, rows, cols)
 }
 
-// The greatest black level of an area: that of the rows that fall on each row of the pattern.
+/// The greatest black level of an active area of so many rows and columns, in 256ths.
 #[tactic(auto, using(crate::proofs::SpanLemmas::black_more, crate::proofs::SpanLemmas::black_first, crate::proofs::SpanLemmas::greatest_black_is))]
-fn greatest_black(levels: &Levels, rows: u32, cols: u32) -> i64
+pub fn greatest_black(levels: &Levels, rows: u32, cols: u32) -> i64
     requires some_rows { 1 ≤ rows }
     requires rows { rows ≤ 8192 }
     requires some_cols { 1 ≤ cols }

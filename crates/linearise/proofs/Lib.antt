@@ -1,0 +1,2 @@
+pub mod LinearRows
+pub mod Rescaling

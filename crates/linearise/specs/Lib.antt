@@ -1,0 +1,4 @@
+pub mod Blacks
+pub mod Linear
+pub mod Rows
+pub mod Scales

@@ -1,0 +1,5 @@
+//! Linear values of raw ones: the linearisation table, the black levels, and the scale from black to white.
+#![tactic(auto)]
+
+mod rows;
+mod scale;
