@@ -1,2 +1,3 @@
+pub mod BlackLevels
 pub mod LinearRows
 pub mod Rescaling

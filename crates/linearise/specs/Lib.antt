@@ -1,4 +1,5 @@
 pub mod Blacks
+pub mod Held
 pub mod Linear
 pub mod Rows
 pub mod Scales
