@@ -1,3 +1,5 @@
 pub mod BlackLevels
 pub mod LinearRows
 pub mod Rescaling
+pub mod SameParts
+pub mod UnderSettings

@@ -215,7 +215,8 @@ fn across_of(levels: &Levels, i: usize, c: usize) -> i32
     ensures within { IsWithin 33554432 result }
 {
     let cols = levels.black_cols as usize;
-    pattern_level(levels.black.as_slice(), i * cols + c % cols) + delta_at(levels.delta_h.as_slice(), c)
+    pattern_level(levels.black.as_slice(), i * cols + c % cols)
+        + delta_at(levels.delta_h.as_slice(), c)
 }
 
 fn pattern_level(black: &[i32], at: usize) -> i32

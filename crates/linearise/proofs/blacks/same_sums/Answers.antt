@@ -1,6 +1,5 @@
-use Rattle.std.proofs.Common.{◌≡◌, ℕ, ◌<◌, pos, get_or, to_z, of_z, length, arith, rules, below_more}
-use Rattle.std.specs.Prelude.{◌+ℤ◌, IsTrue}
-use Rattle.std.specs.Int.{w32}
+use Rattle.std.proofs.Common.{arith, rules, below_more}
+use Rattle.std.specs.Prelude.{IsTrue}
 use Rattle.std.proofs.lemmas.Int.{ints}
 use Rattle.linearise.proofs.blacks.same_sums.Goals as goal
 

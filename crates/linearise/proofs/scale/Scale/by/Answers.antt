@@ -1,7 +1,7 @@
-use Rattle.std.proofs.Common.{◌≡◌, ◌+◌, ◌*◌, ◌<◌, ◌≤◌, ◌^◌, ◌/◌, ◌%◌, ℕ, subst, sym, arith}
+use Rattle.std.proofs.Common.{◌+◌, ◌*◌, ◌<◌, ◌≤◌, ◌^◌, ◌/◌, ◌%◌, ℕ, subst, sym, arith}
 use Rattle.std.proofs.Math.Nat.{pow-le-pow_right}
 use Rattle.std.proofs.lemmas.Nat.{one_shl}
-use Rattle.linearise.specs.Scales.{IsFactor, IsScale}
+use Rattle.linearise.specs.Scales.{IsFactor}
 use Rattle.linearise.proofs.Rescaling.{halves}
 use Rattle.linearise.proofs.scale.Scale.by.Goals as goal
 

@@ -1,5 +1,4 @@
-use Rattle.std.proofs.Common.{◌≡◌, ◌+◌, ◌*◌, ◌/◌, ◌^◌, ◌≤◌, ℕ, ap, ◌∙◌, arith}
-use Rattle.linearise.specs.Scales.{part_of}
+use Rattle.std.proofs.Common.{arith}
 use Rattle.linearise.proofs.Rescaling.{part_is, part_small}
 use Rattle.linearise.proofs.scale.Scale.part.Goals as goal
 
