@@ -1,3 +1,3 @@
-pub mod Decoding
+pub mod SegmentLemmas
 mod Examples
 pub mod Opening

@@ -1,6 +1,7 @@
 -- Segments that were opened, and what is fetched of them.
-use Rattle.std.proofs.Common.{◌≡◌, ℕ, ◌+◌, ◌<◌, ◌≤◌, Bool, true, false, eqb, List, ◌++◌, Option, None, Some, get_or, length, take, slice_get, slice_index, option_map, refl, sym, ap, ◌∙◌, subst, arith}
+use Rattle.std.proofs.Common.{mul-pos, ◌≡◌, ℕ, ◌+◌, ◌*◌, ◌<◌, ◌≤◌, Bool, true, false, cond, eqb, List, [], ◌++◌, Option, None, Some, Result, Ok, get_or, length, take, slice_get, slice_index, option_map, refl, sym, ap, ◌∙◌, subst, arith}
 use Rattle.std.specs.Bool.{OnTrue}
+use Rattle.std.specs.Result.{result_unwrap_or}
 use Rattle.std.proofs.lemmas.Bool.{eqb-true}
 use Rattle.std.proofs.lemmas.List.{length-map, take_at}
 use Rattle.std.proofs.lemmas.Option.{get_or_from_slice_get, slice_get-map}
@@ -13,13 +14,15 @@ use Rattle.plane_view.proofs.Samples.{get_or-samples_of, length-samples_of}
 use Rattle.stage_core.specs.Bases.{AreCells}
 use Rattle.stage_core.specs.Planes.{IsPart, IsPlane}
 use Rattle.stage_core.proofs.CellLemmas.{any_at}
-use Rattle.tiff_dirs.specs.declared.Order.{Order}
-use Rattle.dng_tags.specs.Facts.{AreParts, IsFrame}
-use Rattle.dng_tags.specs.Raw.{coded_count, coded_place, coded_samples, raw_sample, segments_plane}
+use Rattle.dng_tags.specs.Facts.{AreParts, IsFrame, IsPart as IsPartOf}
+use Rattle.dng_tags.specs.Raw.{coded_count, coded_place, coded_samples, coding_of, raw_sample, samples_in, segments_plane}
+use Rattle.dng_tags.specs.declared.faults.SegmentFault.{SegmentFault}
+use Rattle.dng_tags.specs.declared.record.Coding.{Coding}
+use Rattle.dng_tags.specs.declared.record.Coding.TheVariants.{LosslessJpeg, Packed}
 use Rattle.dng_tags.specs.declared.record.Frame.{Frame}
 use Rattle.dng_tags.specs.declared.record.Segment.{Segment}
 use Rattle.dng_tags.proofs.RawLemmas.{raw_sample-at}
-use Rattle.frame_segments.specs.Buffers.{AreOpened, HasEnough, Holds}
+use Rattle.frame_segments.specs.Buffers.{AreOpened, Holds, IsCoding, IsDecodable}
 use Rattle.frame_segments.specs.Opened.{rects_of}
 
 same_some : {A : Type 0} (a b : A) → Some a ≡ Some b → a ≡ b
@@ -82,64 +85,79 @@ on_equal m n f = on_true (eqb m n) (λ e. f (eqb-true m n e))
     on_true false g = tt
 
 -- the plane of opened segments
-pub plane_planes : (bytes : List ℕ) (order : Order) (depth : ℕ) (shape : Shape) (segments : List Segment) → (segments_plane bytes order depth shape segments).planes ≡ 1
+pub plane_planes : (bytes : List ℕ) (coding : Coding) (shape : Shape) (segments : List Segment) → (segments_plane bytes coding shape segments).planes ≡ 1
 unfolding segments_plane
-plane_planes bytes order depth shape segments = refl
+plane_planes bytes coding shape segments = refl
 
-pub plane_is : (bytes : List ℕ) (order : Order) (depth : ℕ) (shape : Shape) (segments : List Segment) → shape.planes ≡ 1 → IsPlane (segments_plane bytes order depth shape segments) shape
+pub plane_is : (bytes : List ℕ) (coding : Coding) (shape : Shape) (segments : List Segment) → shape.planes ≡ 1 → IsPlane (segments_plane bytes coding shape segments) shape
 unfolding segments_plane
-plane_is bytes order depth shape segments one = record {
+plane_is bytes coding shape segments one = record {
   whole = length-samples_of shape.rows shape.cols 1 _;
   shape = record { rows = refl; cols = refl; planes = sym one };
 }
 
 -- the buffer holds another segment
-pub reopened : (bytes : List ℕ) (order : Order) (depth : ℕ) (shape : Shape) (segments : List Segment) (old new : List ℕ) (held k : ℕ) (segment : Segment) → AreOpened bytes order depth shape segments old held → length new ≡ length old → slice_get segments k ≡ Some segment → Holds new bytes order depth segment → AreOpened bytes order depth shape segments new k
-reopened bytes order depth shape segments old new held k segment opened same at holds = record {
-  low = opened.low;
-  high = opened.high;
+pub reopened : (bytes : List ℕ) (coding : Coding) (shape : Shape) (segments : List Segment) (old new : List ℕ) (held k : ℕ) (segment : Segment) → AreOpened bytes coding shape segments old held → length new ≡ length old → slice_get segments k ≡ Some segment → Holds new bytes coding segment → AreOpened bytes coding shape segments new k
+reopened bytes coding shape segments old new held k segment opened same at holds = record {
+  depth = opened.depth;
   limits = opened.limits;
   planes = opened.planes;
   cells = opened.cells;
   coded = opened.coded;
-  fit = λ j other atj. let fits = opened.fit j other atj in record { inside = fits.inside; room = omega (arith, fits.room, same) };
-  enough = opened.enough;
-  holds = λ other ato. let one : segment ≡ other = same_some segment other (sym at ∙ ato) in subst (Holds new bytes order depth) one holds;
+  fit = λ j other atj. let fits = opened.fit j other atj in record { inside = fits.inside; room = omega (arith, fits.room, same); some = fits.some; few = fits.few };
+  decodable = opened.decodable;
+  holds = λ other ato. let one : segment ≡ other = same_some segment other (sym at ∙ ato) in subst (Holds new bytes coding) one holds;
 }
 
 -- what was fetched is the plane's
-pub fetched_agrees : (bytes : List ℕ) (order : Order) (depth : ℕ) (shape : Shape) (segments : List Segment) (buffer coded : List ℕ) (held k : ℕ) (segment : Segment) (rect : Rect) (L : Lent) → AreOpened bytes order depth shape segments buffer held → IsFound segments k rect segment → coded ≡ coded_samples bytes order depth segment → L.planes ≡ 1 → ((r c p : ℕ) → HasPixel segment.rect r c → p < 1 → sample_at L r c p ≡ slice_index coded (coded_place segment r c)) → AgreesWith (segments_plane bytes order depth shape segments) L rect
+pub fetched_agrees : (bytes : List ℕ) (coding : Coding) (shape : Shape) (segments : List Segment) (buffer coded : List ℕ) (held k : ℕ) (segment : Segment) (rect : Rect) (L : Lent) → AreOpened bytes coding shape segments buffer held → IsFound segments k rect segment → samples_in bytes coding segment ≡ Ok coded → L.planes ≡ 1 → ((r c p : ℕ) → HasPixel segment.rect r c → p < 1 → sample_at L r c p ≡ slice_index coded (coded_place segment r c)) → AgreesWith (segments_plane bytes coding shape segments) L rect
 unfolding segments_plane
-fetched_agrees bytes order depth shape segments buffer coded held k segment rect L opened found same one pixels = record {
+fetched_agrees bytes coding shape segments buffer coded held k segment rect L opened found same one pixels = record {
   planes = sym one;
   samples = λ r c p pixel hp.
       let here : HasPixel segment.rect r c = subst (λ (x : Rect). HasPixel x r c) (sym found.rect_is) pixel in
       let part = opened.cells.part k segment.rect (cell_of_segment segments k segment found.at) in
-      let raw : raw_sample bytes order depth segments r c ≡ slice_index (coded_samples bytes order depth segment) (coded_place segment r c) =
-      raw_sample-at bytes order depth segments k segment r c
+      let raw : raw_sample bytes coding segments r c ≡ slice_index (coded_samples bytes coding segment) (coded_place segment r c) =
+      raw_sample-at bytes coding segments k segment r c
       (λ i j a b ati atj ina inb. opened.cells.apart i j a.rect b.rect (cell_of_segment segments i a ati) (cell_of_segment segments j b atj) r c ina inb)
       found.at here in
-      get_or-samples_of shape.rows shape.cols 1 (λ r c p. raw_sample bytes order depth segments r c) r c p (omega (arith, here.bottom, part.inside.bottom)) (omega (arith, here.right, part.inside.right)) hp
+      get_or-samples_of shape.rows shape.cols 1 (λ r c p. raw_sample bytes coding segments r c) r c p (omega (arith, here.bottom, part.inside.bottom)) (omega (arith, here.right, part.inside.right)) hp
       ∙ raw
-      ∙ ap (λ (xs : List ℕ). slice_index xs (coded_place segment r c)) (sym same)
+      ∙ ap (λ (answer : Result (List ℕ) SegmentFault). slice_index (result_unwrap_or answer []) (coded_place segment r c)) same
       ∙ sym (pixels r c p here hp);
 }
 
+-- how a frame's segments are coded
+pub coding_is : (frame : Frame) → (8 ≤ frame.depth) × (frame.depth ≤ 16) → IsCoding (coding_of frame)
+coding_is frame depth = by frame.lossless
+  where
+    by : (lossless : Bool) → IsCoding (cond lossless LosslessJpeg (Packed frame.order frame.depth))
+    by true = tt
+    by false = depth
+
+-- some samples of a segment are coded
+product_some : (m n : ℕ) → 1 ≤ m → 1 ≤ n → 1 ≤ m * n
+product_some m n hm hn = mul-pos hm hn
+
+pub some_coded : (shape : Shape) (segment : Segment) → IsPartOf shape segment → 1 ≤ coded_count segment
+some_coded shape segment part = product_some segment.full_rows segment.full_cols (omega (arith, part.some.rows, part.rows)) (omega (arith, part.some.cols, part.cols))
+
 -- the segments of a frame, once all are decoded
-pub opened : (bytes : List ℕ) (frame : Frame) (items : List Segment) (buffer : List ℕ) (held : ℕ) → IsFrame frame bytes → items ≡ frame.segments → ((k : ℕ) (segment : Segment) → slice_get items k ≡ Some segment → coded_count segment ≤ length buffer) → ((k : ℕ) (segment : Segment) → slice_get items k ≡ Some segment → HasEnough frame.depth segment) → ((k : ℕ) (segment : Segment) → k + 1 ≡ length items → slice_get items k ≡ Some segment → Holds buffer bytes frame.order frame.depth segment) → held + 1 ≡ length items → AreOpened bytes frame.order frame.depth frame.shape items buffer held
-opened bytes frame items buffer held is same room enough last count =
+pub opened : (bytes : List ℕ) (frame : Frame) (coding : Coding) (items : List Segment) (buffer : List ℕ) (held : ℕ) → IsFrame frame bytes → coding ≡ coding_of frame → items ≡ frame.segments → ((k : ℕ) (segment : Segment) → slice_get items k ≡ Some segment → coded_count segment ≤ length buffer) → ((k : ℕ) (segment : Segment) → slice_get items k ≡ Some segment → IsDecodable bytes coding segment) → ((k : ℕ) (segment : Segment) → k + 1 ≡ length items → slice_get items k ≡ Some segment → Holds buffer bytes coding segment) → held + 1 ≡ length items → AreOpened bytes coding frame.shape items buffer held
+opened bytes frame coding items buffer held is coded same room decodable last count =
     let of_frame : (k : ℕ) (segment : Segment) → slice_get items k ≡ Some segment → slice_get frame.segments k ≡ Some segment = λ k segment at. subst (λ (xs : List Segment). slice_get xs k ≡ Some segment) same at in
     let shape = is.shape in
     record {
-      low = is.depth.0;
-      high = is.depth.1;
+      depth = subst IsCoding (sym coded) (coding_is frame is.depth);
       limits = record { some_rows = shape.some_rows; rows = shape.rows; some_cols = shape.some_cols; cols = shape.cols; some_planes = omega (arith, shape.planes); planes = omega (arith, shape.planes) };
       planes = shape.planes;
       cells = subst (λ (xs : List Segment). AreCells (rects_of xs) frame.shape) (sym same) (cells_of_parts frame.shape frame.segments is.parts);
       coded = λ k segment at.
           let part = is.parts.part k segment (of_frame k segment at) in
           record { some = part.some; bottom = omega (arith, part.inside.bottom, shape.rows); right = omega (arith, part.inside.right, shape.cols); rows = part.rows; cols = part.cols; count = part.coded };
-      fit = λ k segment at. record { inside = is.inside k segment (of_frame k segment at); room = room k segment at };
-      enough = enough;
+      fit = λ k segment at.
+          let part = is.parts.part k segment (of_frame k segment at) in
+          record { inside = is.inside k segment (of_frame k segment at); room = room k segment at; some = some_coded frame.shape segment part; few = part.coded };
+      decodable = decodable;
       holds = λ segment at. last held segment count at;
     }

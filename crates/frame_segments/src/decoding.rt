@@ -8,7 +8,7 @@ ghost use Rattle.plane_view.specs.Tiles.{loan, tile_rect, SameLoan};
 ghost use Rattle.ljpeg_predict.specs.Decoded.{decoded};
 ghost use Rattle.dng_tags.specs.Raw.{coded_count, coded_place, fault_from, jpeg_samples, packed_samples, samples_in};
 ghost use Rattle.dng_tags.specs.declared.record.Segment.{Segment as SegmentRecord};
-ghost use Rattle.frame_segments.specs.Buffers.{Fits, Holds, IsCoded, IsCoding, IsDecodable, told};
+ghost use Rattle.frame_segments.specs.Buffers.{Fits, Holds, IsCoded, IsCoding, IsCoding-prop, IsDecodable, told};
 
 use dng_tags::{Coding, FrameFault, Segment, SegmentFault};
 use ljpeg_predict::decode;
@@ -21,7 +21,7 @@ use tiff_dirs::Order;
 pub(crate) struct Coded<'a> {
     pub bytes: &'a [u8],
     pub coding: Coding,
-    ghost depth: { IsCoding coding },
+    ghost depth: { IsCoding coding } by { IsCoding-prop coding },
 }
 
 /// How many samples of a segment are coded.

@@ -2,7 +2,7 @@
 //! fetched.
 #![tactic(auto)]
 
-mod packed;
+mod decoding;
 mod segments;
 #[cfg(test)]
 mod tests;

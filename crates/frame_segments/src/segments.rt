@@ -1,12 +1,12 @@
 //! The segments of a frame, opened.
 
 ghost use Rattle.std.proofs.Common.{rules};
-ghost use Rattle.std.specs.Prelude.{◌≡◌, ◌≢◌, ℕ, ◌+◌, ◌-◌, ◌<◌, ◌≤◌, ◌^◌, false, length, min, slice_get, None, Some, IfErr, IfOk, OnOk};
+ghost use Rattle.std.specs.Prelude.{◌≡◌, ◌≢◌, ℕ, ◌+◌, ◌-◌, ◌<◌, ◌≤◌, ◌^◌, length, min, slice_get, None, Some, IfErr, IfOk, OnOk};
 ghost use Rattle.dng_tags.specs.Facts.{IsFrame};
 ghost use Rattle.dng_tags.specs.Raw.{raw, undecoded};
 ghost use Rattle.frame_segments.specs.Opened.{rects_of};
 
-use crate::packed::{Packed, copy_pixels, largest_count};
+use crate::decoding::{Coded, copy_pixels, largest_count};
 use dng_tags::{Frame, FrameFault, Segment};
 use lists::Items;
 use plane_view::{Rect, Shape, TileMut};
@@ -15,10 +15,10 @@ use std::alloc::Global;
 use std::marker::Model;
 use std::sync::ledger::Ledger;
 
-/// The segments of a frame whose samples are packed. A segment is a cell of the raw plane.
+/// The segments of a frame. A segment is a cell of the raw plane.
 #[derive(Drop)]
 pub struct Segments<'a> {
-    packed: Packed<'a>,
+    coded: Coded<'a>,
     shape: Shape,
     segments: Items<Segment>,
     /// The coded samples of one segment, and then what others left.
@@ -36,12 +36,12 @@ impl<'a> Model for Segments<'a> {
     ghost Value = { Opened };
 
     ghost view = { λ s. record {
-      plane = segments_plane s.packed.bytes.now s.packed.order s.packed.depth s.shape s.segments;
+      plane = segments_plane s.coded.bytes.now s.coded.coding s.shape s.segments;
       cells = rects_of s.segments;
       fetches = s.fetched;
     } };
 
-    ghost invariant = { λ s. AreOpened s.packed.bytes.now s.packed.order s.packed.depth s.shape s.segments s.buffer.items s.held };
+    ghost invariant = { λ s. AreOpened s.coded.bytes.now s.coded.coding s.shape s.segments s.buffer.items s.held };
 }
 
 impl<'a> Segments<'a> {
@@ -53,7 +53,6 @@ impl<'a> Segments<'a> {
     /// `Segment` exactly where a segment can't be decoded, for the first such one; `Memory` where there is no memory.
     pub fn open(alloc: Global, bytes: &'a [u8], frame: &Frame) -> Result<Segments<'a>, FrameFault>
         requires frame { IsFrame frame.now bytes.now }
-        requires packed { frame.now.lossless ≡ false }
         ensures opened { IfOk result
             (λ segments. segments ≡ record { plane = raw bytes.now frame.now; cells = rects_of frame.now.segments; fetches = 0 }) }
         ensures decoded { OnOk result (undecoded bytes.now frame.now ≡ None) }
@@ -63,18 +62,17 @@ impl<'a> Segments<'a> {
         let Ok(mut buffer) = vec![in alloc; 0u16; largest_count(segments)] else {
             return Err(FrameFault::Memory);
         };
-        let packed = Packed {
+        let coded = Coded {
             bytes,
-            order: frame.order,
-            depth: frame.depth,
+            coding: frame.coding(),
         };
-        packed.decode_all(segments, &mut buffer)?;
+        coded.decode_all(segments, &mut buffer)?;
         let Ok(segments) = Items::from_slice(alloc, segments) else {
             return Err(FrameFault::Memory);
         };
         let held = segments.len() as u32 - 1;
         Ok(Segments {
-            packed,
+            coded,
             shape: frame.shape,
             segments,
             buffer,
@@ -107,7 +105,7 @@ impl<'a> Base for Segments<'a> {
 
     fn fetch<L: Ledger>(&mut self, k: u32, out: &mut TileMut<'_>, work: &mut Steps<L>) {
         let segment = self.segments.as_slice()[k as usize];
-        self.packed
+        self.coded
             .bring(&segment, self.held == k, &mut self.buffer);
         self.held = k;
         copy_pixels(&segment, &self.buffer, out);

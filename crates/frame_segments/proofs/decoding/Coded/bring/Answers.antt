@@ -1,4 +1,4 @@
-use Rattle.frame_segments.proofs.Decoding.{decoded_again}
+use Rattle.frame_segments.proofs.SegmentLemmas.{decoded_again}
 use Rattle.frame_segments.proofs.decoding.Coded.bring.Goals as goal
 
 pub returns : goal.returns

@@ -5,7 +5,7 @@ use Rattle.std.proofs.lemmas.Option.{slice_get-get_or, slice_get_within}
 use Rattle.dng_tags.specs.declared.faults.SegmentFault.{SegmentFault}
 use Rattle.dng_tags.specs.declared.record.Segment.{Segment}
 use Rattle.frame_segments.specs.Buffers.{Holds, IsDecodable}
-use Rattle.frame_segments.proofs.Decoding.{decodable, next_fault, no_fault_left, same_element}
+use Rattle.frame_segments.proofs.SegmentLemmas.{decodable, next_fault, no_fault_left, same_element}
 use Rattle.frame_segments.proofs.decoding.Coded.decode_all.Goals as goal
 
 abbrev nothing : Segment

@@ -9,4 +9,4 @@ pub returns-clause-plane : goal.returns-clause-plane
 returns-clause-plane c =
     let s = c.self.inside in
     let P : Plane → Type 0 = λ plane. IsPlane plane s.shape in
-    subst P (ap (λ (o : Opened). o.plane) c.self.view_is) (plane_is s.packed.bytes.now s.packed.order s.packed.depth s.shape s.segments c.self.invariant.planes)
+    subst P (ap (λ (o : Opened). o.plane) c.self.view_is) (plane_is s.coded.bytes.now s.coded.coding s.shape s.segments c.self.invariant.planes)
