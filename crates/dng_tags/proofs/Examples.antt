@@ -8,7 +8,6 @@ use Rattle.tiff_dirs.specs.Values.{number_in, rational_in}
 use Rattle.tiff_dirs.specs.declared.Order.TheVariants.{Little}
 use Rattle.dng_tags.specs.Area.{active_of, crop_of, crop_rect, extent_of, large_enough}
 use Rattle.dng_tags.specs.Black.{black_at, greatest_black, levels_of, levels_under, repeat_of, span_of, spanning, table_of, white_of}
-use Rattle.dng_tags.specs.Built.{are_plain_colours, are_plain_levels, is_built}
 use Rattle.dng_tags.specs.Colours.{analog_of, calibration_in, calibration_of, colour_of, gain_of, gains_in, gains_of, has_gain, is_diagonal, is_positive, matrix_in, matrix_of}
 use Rattle.dng_tags.specs.Form.{depth_of, form_of, format_of, lossless_of, number_or, photometric_of, required_number_of, required_numbers_of, samples_per_pixel_of, shape_of, side_of}
 use Rattle.dng_tags.specs.Frame.{frame_of, lacks, record_of, without_opcodes_of}
@@ -68,10 +67,6 @@ flat_record = record {
 flat-frame : frame_of flat ≡ Ok flat_record
 unfolding frame_of record_of tiff_of open_of origin_of version_of needed_version_of raw_directory_of subfile_type_at form_of photometric_of lossless_of samples_per_pixel_of depth_of format_of shape_of side_of required_number_of number_or segments_of layout_of strips_of strip_rows_of required_numbers_of checked_layout segments_in segment_at rect_at pattern_of pattern_size_of colours_of has_plane_colours has_square_layout without_opcodes_of lacks active_of large_enough levels_of table_of repeat_of levels_under white_of spanning span_of greatest_black crop_of extent_of colour_of matrix_of calibration_of analog_of gains_of numbers_of number_of numbers_at fractions_of fractions_at field_at numbers_in fractions_in order_of is_big is_little has_header first_directory directory_fits entry_count number_at entry_of entries field_or_fault field_of value_fits value_size value_place slot_at size_of number_in
 flat-frame = refl
-
-flat-built : is_built flat_record ≡ true
-unfolding is_built are_plain_levels are_plain_colours
-flat-built = refl
 
 -- one byte fewer, and a shorter file
 flat-outside : frame_of (take 153 flat) ≡ Err (Outside 0)

@@ -1,7 +1,6 @@
 pub mod Answers
 pub mod Area
 pub mod Black
-pub mod Built
 pub mod Colours
 pub mod Facts
 pub mod FaultText

@@ -3,7 +3,6 @@
 
 mod area;
 mod black;
-mod built;
 mod colours;
 mod faults;
 mod form;

@@ -1,6 +1,7 @@
 // Flat frames of 4 by 4 with changed entries: what is refused, and what the record has. The expected numbers were worked
 // out by hand from the rules of each tag.
 use super::*;
+use ljpeg_predict::JpegFault;
 use lists::Items;
 use std::alloc::{AllocError, Global};
 use std::test::Fail;
@@ -406,12 +407,11 @@ fn cuts_images(rt: HostRuntime) -> Result<(), Fail> {
     ];
     let frame = read(alloc, &changed(alloc, &tiles, Order::Little)?)?;
     assert!(rt; segments_are(&frame, &[[1, 0, 0, 4, 3, 16, 3], [2, 0, 3, 4, 4, 16, 3]]));
-    assert!(rt; frame.is_built());
     Ok(())
 }
 
-// Whether a frame is read, has as many rows and columns as `side`, and can be developed.
-fn is_developed(
+// Whether a frame is read, and has as many rows and columns as `side`.
+fn has_side(
     alloc: Global,
     frame: TestFrame,
     order: Order,
@@ -419,7 +419,7 @@ fn is_developed(
 ) -> Result<bool, AllocError> {
     let bytes = frame.bytes(alloc, order)?;
     match read(alloc, &bytes) {
-        Ok(frame) => Ok(frame.shape.rows == side && frame.shape.cols == side && frame.is_built()),
+        Ok(frame) => Ok(frame.shape.rows == side && frame.shape.cols == side),
         Err(_) => Ok(false),
     }
 }
@@ -427,12 +427,12 @@ fn is_developed(
 #[test]
 fn finds_the_raw_directory(rt: HostRuntime) -> Result<(), Fail> {
     let alloc = rt.alloc();
-    assert!(rt; is_developed(alloc, flat(alloc)?, Order::Little, 4)?);
+    assert!(rt; has_side(alloc, flat(alloc)?, Order::Little, 4)?);
     let inner = flat(alloc)?.in_sub_directory(alloc)?;
-    assert!(rt; is_developed(alloc, inner, Order::Big, 4)?);
+    assert!(rt; has_side(alloc, inner, Order::Big, 4)?);
     let twice = flat(alloc)?.and(Field::shorts(alloc, 256, &[9])?)?;
-    assert!(rt; is_developed(alloc, twice, Order::Little, 4)?);
-    assert!(rt; is_developed(alloc, bright_red(alloc)?, Order::Little, 8)?);
+    assert!(rt; has_side(alloc, twice, Order::Little, 4)?);
+    assert!(rt; has_side(alloc, bright_red(alloc)?, Order::Little, 8)?);
     Ok(())
 }
 
@@ -459,4 +459,8 @@ fn tells_faults(rt: HostRuntime) {
     };
     let why = SegmentFault::Short(short);
     assert!(rt; says(F::Segment { segment: 0, why }, b"Segment 0 Short 32 31"));
+    let why = SegmentFault::Jpeg(JpegFault::NoStart);
+    assert!(rt; says(F::Segment { segment: 7, why }, b"Segment 7 Jpeg NoStart"));
+    let why = SegmentFault::Jpeg(JpegFault::NotLossless { marker: 192 });
+    assert!(rt; says(F::Segment { segment: 65535, why }, b"Segment 65535 Jpeg NotLossless 192"));
 }
