@@ -1,0 +1,3 @@
+pub mod Pitches
+pub mod Columns
+pub mod MappedRows

@@ -1,2 +1,7 @@
 pub mod Crops
 pub mod CropLaws
+pub mod Maps
+pub mod MapRows
+pub mod MapStages
+pub mod Equality
+pub mod MapLaws

@@ -2,5 +2,10 @@
 #![tactic(auto)]
 
 mod crop;
+mod map_rows;
+mod map_table;
+#[cfg(test)]
+mod tests;
 
 pub use crop::Crop;
+pub use map_table::MapTable;

@@ -1,0 +1,59 @@
+-- Multiples of a pitch, and the numbers between them.
+use Rattle.std.proofs.Common.{◌≡◌, ℕ, ◌+◌, ◌-◌, ◌*◌, ◌/◌, ◌%◌, ◌<◌, ◌≤◌, sym, ◌∙◌, ap, arith}
+use Rattle.std.proofs.lemmas.Nat.{div-add-mod', mod-mul-add, mod_below}
+use Rattle.std.proofs.Math.Nat.{zero-mod, mul-add-mod_self_right}
+use Rattle.opcode_stages.specs.MapRows.{IsFirstFrom}
+
+-- short of the next multiple
+pub short_mod : (a j m : ℕ) → a % m + j < m → (a + j) % m ≡ a % m + j
+short_mod a j m short =
+    let whole : a / m * m + a % m ≡ a = div-add-mod' a m in
+    let same : a + j ≡ a / m * m + (a % m + j) = omega (arith, whole) in
+    ap (λ n. n % m) same ∙ mod-mul-add (a / m) m (a % m + j) short
+
+-- up to the next multiple
+pub next_mod : (a j m : ℕ) → 0 < m → a % m + j ≡ m → (a + j) % m ≡ 0
+next_mod a j m some full =
+    let whole : a / m * m + a % m ≡ a = div-add-mod' a m in
+    let same : a + j ≡ (a / m + 1) * m + 0 = omega (arith, whole) in
+    ap (λ n. n % m) same ∙ mod-mul-add (a / m + 1) m 0 some
+
+-- past a multiple
+pub past_mod : (a b m : ℕ) → a % m ≡ 0 → (a + b) % m ≡ b % m
+past_mod a b m multiple =
+    let whole : a / m * m + a % m ≡ a = div-add-mod' a m in
+    let same : a + b ≡ a / m * m + b = omega (arith, whole, multiple) in
+    ap (λ n. n % m) same ∙ mul-add-mod_self_right (a / m) m b
+
+-- the start itself
+pub first_start : (start pitch low : ℕ) → low ≤ start → IsFirstFrom start pitch low start
+first_start start pitch low below = record {
+  not_before = omega arith;
+  not_below = below;
+  stepped = (let none : start - start ≡ 0 = omega arith in ap (λ n. n % pitch) none ∙ zero-mod pitch);
+  least = λ k from above under step. absurd (omega arith);
+}
+
+-- the bound itself
+pub first_low : (start pitch low : ℕ) → start ≤ low → (low - start) % pitch ≡ 0 → IsFirstFrom start pitch low low
+first_low start pitch low above step = record {
+  not_before = above;
+  not_below = omega arith;
+  stepped = step;
+  least = λ k from at under step'. absurd (omega arith);
+}
+
+-- the next one after the bound
+pub first_past : (start pitch low past : ℕ) → start ≤ low → 0 < pitch → past ≡ (low - start) % pitch → 0 < past → IsFirstFrom start pitch low (low + (pitch - past))
+first_past start pitch low past above some is_past not_at =
+    let below : (low - start) % pitch < pitch = mod_below (low - start) pitch some in
+    record {
+      not_before = omega arith;
+      not_below = omega arith;
+      stepped = (let same : low + (pitch - past) - start ≡ (low - start) + (pitch - past) = omega arith in
+          ap (λ n. n % pitch) same ∙ next_mod (low - start) (pitch - past) pitch some (omega (arith, below, is_past)));
+      least = λ k from at under step.
+          let same : k - start ≡ (low - start) + (k - low) = omega arith in
+          let rest : (k - start) % pitch ≡ (low - start) % pitch + (k - low) = ap (λ n. n % pitch) same ∙ short_mod (low - start) (k - low) pitch (omega (arith, below, is_past)) in
+          absurd (omega (arith, rest, step, is_past));
+    }

@@ -1,0 +1,325 @@
+//! Rows of planes, computed by hand, and rectangles of planes against the whole.
+
+ghost use Rattle.std.specs.Prelude.{◌≡◌, ◌<◌, ◌≤◌, ◌*◌, IsTrue, IfSome};
+ghost use Rattle.std.specs.Bool.{Decides};
+ghost use Rattle.plane_view.specs.Rectangles.{area_of};
+ghost use Rattle.plane_view.specs.Shapes.{IsShape};
+ghost use Rattle.stage_core.specs.Planes.{IsPart};
+ghost use Rattle.opcode_stages.specs.MapStages.{mapping_of};
+
+use super::*;
+use plane_view::{Rect, Shape, TileMut, View};
+use stage_core::{Stage, Steps};
+use std::alloc::Global;
+use std::marker::Brand;
+use std::sync::ledger::{Blank, Ledger};
+use std::test::Fail;
+
+/// A rectangle.
+fn rect(top: u32, left: u32, bottom: u32, right: u32) -> Rect
+    ensures { result ≡ record { top = top; left = left; bottom = bottom; right = right } }
+{
+    Rect {
+        top,
+        left,
+        bottom,
+        right,
+    }
+}
+
+/// A shape.
+fn shape(rows: u32, cols: u32, planes: u32) -> Shape
+    ensures { result ≡ record { rows = rows; cols = cols; planes = planes } }
+{
+    Shape { rows, cols, planes }
+}
+
+/// Whether a shape is within the limits.
+fn is_shape(shape: Shape) -> bool
+    ensures { IsTrue result → IsShape shape }
+{
+    let Shape { rows, cols, planes } = shape;
+    0 < rows && rows <= 8192 && 0 < cols && cols <= 8192 && 0 < planes && planes <= 3
+}
+
+/// Whether a rectangle has pixels, and lies in a plane of this shape.
+fn is_part(rect: Rect, shape: Shape) -> bool
+    ensures { IsTrue result → IsPart rect shape }
+{
+    rect.top < rect.bottom && rect.left < rect.right && shape.rect().contains(&rect)
+}
+
+/// Runs a stage over a rectangle, from no more of the plane than it needs. False: the shape is refused, or a size is wrong.
+fn develop<S: Stage, L: Ledger>(
+    stage: &S,
+    plane: &[u16],
+    shape: Shape,
+    rect: Rect,
+    out: &mut [u16],
+    blank: Blank,
+) -> bool
+    requires name { blank.name ≡ L.name }
+    requires parts { blank.parts ≡ L.parts }
+    requires some { 0 < blank.parts }
+{
+    if !is_shape(shape) {
+        return false;
+    }
+    let Some(made) = stage.shape(shape) else {
+        return false;
+    };
+    if !is_part(rect, made) {
+        return false;
+    }
+    let count = u64::from(shape.planes);
+    if plane.len() as u64 != shape.rect().area().saturating_mul(count) {
+        return false;
+    }
+    if out.len() as u64 != rect.area().saturating_mul(u64::from(made.planes)) {
+        return false;
+    }
+    let need = stage.need(shape, rect);
+    let whole = View::new(shape.rect(), shape.planes, plane);
+    let mut work = Steps::<L>::new(blank);
+    let mut tile = TileMut::new(rect, made.planes, out);
+    stage.run(&whole.sub(need), shape, &mut tile, &mut work);
+    true
+}
+
+/// How many samples a plane or a part of one has here at most.
+const SPACE: usize = 128;
+
+/// How many samples a rectangle has in so many planes, if there is space for them.
+fn samples_of(rect: Rect, planes: u32) -> Option<usize>
+    ensures count { IfSome result (λ count. count ≡ area_of rect * planes) }
+    ensures space { IfSome result (λ count. count ≤ 128) }
+{
+    let count = rect.area().saturating_mul(u64::from(planes));
+    if count <= SPACE as u64 {
+        Some(count as usize)
+    } else {
+        None
+    }
+}
+
+/// Whether a stage makes these samples of a rectangle of a plane.
+fn makes<S: Stage>(stage: &S, plane: &[u16], shape: Shape, rect: Rect, want: &[u16]) -> bool {
+    let mut out = [0; SPACE];
+    let count = want.len();
+    if count > SPACE {
+        return false;
+    }
+    let out = &mut out[..count];
+    develop::<S, Brand>(stage, plane, shape, rect, out, Blank::new(1)) && &*out == want
+}
+
+/// Whether a stage makes of a rectangle of a plane what is there in the whole that it makes, a plane of shape `made`.
+fn is_part_of<S: Stage>(
+    stage: &S,
+    plane: &[u16],
+    shape: Shape,
+    whole: &[u16],
+    made: Shape,
+    rect: Rect,
+) -> bool {
+    let mut want = [0; SPACE];
+    let (Some(count), Some(all)) = (
+        samples_of(rect, made.planes),
+        samples_of(made.rect(), made.planes),
+    ) else {
+        return false;
+    };
+    if whole.len() != all {
+        return false;
+    }
+    let want = &mut want[..count];
+    TileMut::new(rect, made.planes, want).copy_from(&View::new(made.rect(), made.planes, whole));
+    makes(stage, plane, shape, rect, want)
+}
+
+/// How many rectangles that begin in one row of a plane are the parts of the whole.
+fn parts_from<S: Stage>(
+    stage: &S,
+    plane: &[u16],
+    shape: Shape,
+    whole: &[u16],
+    made: Shape,
+    top: u32,
+) -> u32 {
+    let mut count = 0u32;
+    for bottom in 0..made.rows {
+        for left in 0..made.cols {
+            for right in left..made.cols {
+                let part = rect(top, left, bottom.saturating_add(1), right.saturating_add(1));
+                if is_part_of(stage, plane, shape, whole, made, part) {
+                    count = count.wrapping_add(1);
+                }
+            }
+        }
+    }
+    count
+}
+
+/// How many rectangles of the plane that a stage makes are, made by themselves, the parts of the whole.
+fn parts<S: Stage>(stage: &S, plane: &[u16], shape: Shape, made: Shape) -> u32 {
+    let mut whole = [0; SPACE];
+    let Some(all) = samples_of(made.rect(), made.planes) else {
+        return 0;
+    };
+    let whole = &mut whole[..all];
+    if !develop::<S, Brand>(stage, plane, shape, made.rect(), whole, Blank::new(1)) {
+        return 0;
+    }
+    let mut count = 0u32;
+    for top in 0..made.rows {
+        count = count.wrapping_add(parts_from(stage, plane, shape, whole, made, top));
+    }
+    count
+}
+
+/// A plane of 4 rows and 5 columns, whose sample at row r, column c is 10 r + c.
+const TENS: [u16; 20] = [
+    0, 1, 2, 3, 4, 10, 11, 12, 13, 14, 20, 21, 22, 23, 24, 30, 31, 32, 33, 34,
+];
+
+/// Crops of that plane: the samples, and each of their rectangles by itself. A rectangle that goes past the plane is
+/// refused.
+#[test]
+fn crops(rt: HostRuntime) {
+    let plane = shape(4, 5, 1);
+    for (top, left, bottom, right, want, count) in [
+        (0, 0, 4, 5, TENS.as_slice(), 150),
+        (1, 2, 4, 5, &[12, 13, 14, 22, 23, 24, 32, 33, 34], 36),
+        (3, 0, 4, 2, &[30, 31], 3),
+    ] {
+        let crop = Crop::new(rect(top, left, bottom, right));
+        let made = shape(bottom - top, right - left, 1);
+        assert!(rt;
+            makes(&crop, &TENS, plane, made.rect(), want),
+            "row {top}, column {left}"
+        );
+        assert_eq!(rt; parts(&crop, &TENS, plane, made), count);
+    }
+    let pixels = [7, 8, 9, 17, 18, 19];
+    let right = Crop::new(rect(0, 1, 1, 2));
+    assert!(rt;
+        makes(
+            &right,
+            &pixels,
+            shape(1, 2, 3),
+            rect(0, 0, 1, 1),
+            &[17, 18, 19]
+        )
+    );
+    assert!(rt; right.shape(shape(1, 1, 3)).is_none());
+    assert!(rt; Crop::new(rect(1, 2, 5, 5)).shape(plane).is_none());
+    assert!(rt; Crop::new(rect(1, 2, 4, 6)).shape(plane).is_none());
+    assert!(rt; right != Crop::new(rect(0, 0, 1, 2)));
+}
+
+/// Whether two maps are equal: exactly where what they change and their tables are.
+fn same_maps(a: &MapTable, b: &MapTable) -> bool
+    ensures { Decides result (mapping_of a.now ≡ mapping_of b.now) }
+{
+    a == b
+}
+
+/// The map of a rectangle, in the second number of planes from the first one on, on each so many rows and columns.
+fn map(
+    alloc: Global,
+    rect: Rect,
+    planes: (u32, u32),
+    pitches: (u32, u32),
+    table: &[u16],
+) -> Result<MapTable, Fail> {
+    if pitches.0 == 0 || pitches.1 == 0 || table.is_empty() || table.len() > 65_536 {
+        return Err(Fail::from("a map"));
+    }
+    Ok(MapTable::new(alloc, rect, planes.0, planes.1, pitches.0, pitches.1, table)?)
+}
+
+/// The plane of 4 by 4 that holds 0 in its first row and 1 elsewhere.
+const STEP: [u16; 16] = [0, 0, 0, 0, 1, 1, 1, 1, 1, 1, 1, 1, 1, 1, 1, 1];
+
+/// Maps of a plane of one sample a pixel: the samples, and each rectangle by itself.
+#[test]
+fn maps_samples(rt: HostRuntime) -> Result<(), Fail> {
+    let plane = shape(4, 4, 1);
+    for (at, pitches, table, want) in [
+        (
+            rect(0, 0, 8, 8),
+            (2, 2),
+            [5, 7],
+            [5, 0, 5, 0, 1, 1, 1, 1, 7, 1, 7, 1, 1, 1, 1, 1],
+        ),
+        (
+            rect(1, 1, 3, 4),
+            (1, 2),
+            [5, 7],
+            [0, 0, 0, 0, 1, 7, 1, 7, 1, 7, 1, 7, 1, 1, 1, 1],
+        ),
+        (
+            rect(0, 1, 4, 2),
+            (3, 1),
+            [9, 3],
+            [0, 9, 0, 0, 1, 1, 1, 1, 1, 1, 1, 1, 1, 3, 1, 1],
+        ),
+        (rect(4, 0, 9, 9), (1, 1), [5, 7], STEP),
+        (rect(2, 0, 2, 4), (1, 1), [5, 7], STEP),
+        (
+            rect(0, 0, u32::MAX, u32::MAX),
+            (u32::MAX, u32::MAX),
+            [5, 7],
+            [5, 0, 0, 0, 1, 1, 1, 1, 1, 1, 1, 1, 1, 1, 1, 1],
+        ),
+    ] {
+        let map = map(rt.alloc(), at, (0, 1), pitches, &table)?;
+        assert!(rt; makes(&map, &STEP, plane, plane.rect(), &want), "{at:?}");
+        assert_eq!(rt; parts(&map, &STEP, plane, plane), 100);
+    }
+    Ok(())
+}
+
+/// A value past the table takes its last entry, and planes that a pixel hasn't are left out.
+#[test]
+fn maps_planes(rt: HostRuntime) -> Result<(), Fail> {
+    let pixels = [0, 1, 2, 3, 1, 0];
+    let plane = shape(1, 2, 3);
+    for (planes, want) in [
+        ((0, 1), [40, 1, 2, 60, 1, 0]),
+        ((1, 1), [0, 50, 2, 3, 50, 0]),
+        ((1, u32::MAX), [0, 50, 60, 3, 50, 40]),
+        ((0, 3), [40, 50, 60, 60, 50, 40]),
+        ((2, 0), pixels),
+        ((3, 1), pixels),
+    ] {
+        let map = map(rt.alloc(), plane.rect(), planes, (1, 1), &[40, 50, 60])?;
+        assert!(rt;
+            makes(&map, &pixels, plane, plane.rect(), &want),
+            "{planes:?}"
+        );
+        assert_eq!(rt; parts(&map, &pixels, plane, plane), 3);
+    }
+    Ok(())
+}
+
+/// Maps are equal where all that they were made of is.
+#[test]
+fn compares_maps(rt: HostRuntime) -> Result<(), Fail> {
+    let alloc = rt.alloc();
+    let at = rect(0, 0, 8, 8);
+    let first = map(alloc, at, (0, 1), (2, 2), &[5, 7])?;
+    for (at, planes, pitches, table, want) in [
+        (at, (0, 1), (2, 2), [5, 7].as_slice(), true),
+        (rect(0, 0, 8, 9), (0, 1), (2, 2), &[5, 7], false),
+        (at, (1, 1), (2, 2), &[5, 7], false),
+        (at, (0, 2), (2, 2), &[5, 7], false),
+        (at, (0, 1), (1, 2), &[5, 7], false),
+        (at, (0, 1), (2, 1), &[5, 7], false),
+        (at, (0, 1), (2, 2), &[5, 7, 7], false),
+    ] {
+        let other = map(alloc, at, planes, pitches, table)?;
+        assert_eq!(rt; same_maps(&first, &other), want);
+    }
+    Ok(())
+}
