@@ -1,3 +1,4 @@
 pub mod Pitches
 pub mod Columns
 pub mod MappedRows
+pub mod Mending

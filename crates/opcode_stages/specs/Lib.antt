@@ -5,3 +5,8 @@ pub mod MapRows
 pub mod MapStages
 pub mod Equality
 pub mod MapLaws
+pub mod Mends
+pub mod MendRows
+pub mod MendLaws
+pub mod MendStages
+pub mod MendEquality

@@ -2,10 +2,14 @@
 #![tactic(auto)]
 
 mod crop;
+mod defects;
+mod fix_constant;
 mod map_rows;
 mod map_table;
+mod steps;
 #[cfg(test)]
 mod tests;
 
 pub use crop::Crop;
+pub use fix_constant::FixConstant;
 pub use map_table::MapTable;
