@@ -8,5 +8,7 @@ pub mod MapLaws
 pub mod Mends
 pub mod MendRows
 pub mod MendLaws
+pub mod Places
+pub mod Indexes
 pub mod MendStages
 pub mod MendEquality

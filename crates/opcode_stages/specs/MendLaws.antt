@@ -11,7 +11,7 @@ use Rattle.plane_view.specs.Rectangles.{HasPixel, grown, whole_rect}
 use Rattle.stage_core.specs.Planes.{IsPart}
 use Rattle.stage_core.specs.Stages.{RestsOn}
 use Rattle.opcode_stages.specs.declared.steps.Step.{Step}
-use Rattle.opcode_stages.specs.Mends.{steps_of, is_green, row_after, col_after, stays, is_good, good_sum, good_count, mean_or, mended_at, equals}
+use Rattle.opcode_stages.specs.Mends.{steps_of, is_green, row_after, col_after, stays, is_good, good_sum, good_count, mean_or, mended_at, equals, is_listed}
 use Rattle.opcode_stages.specs.MendRows.{IsShort, IsSingle}
 
 pub mend_needs : (input : Shape) (rect : Rect) → IsPart rect input → IsPart (grown rect 2 (whole_rect input.rows input.cols)) input
@@ -86,6 +86,9 @@ same_good bad rests rows cols f g r c rect pixel agree value none step short =
     (λ (outside : stays rows cols r c step ≡ false).
     ap (λ (b : Bool). value (b && not (bad f i j)) (f i j 0)) outside ∙ none (f i j 0) ∙ sym (ap (λ (b : Bool). value (b && not (bad g i j)) (g i j 0)) outside ∙ none (g i j 0)))
     (cases_Bool (stays rows cols r c step))
+
+pub listed_rests : (points : List (ℕ × ℕ)) (rects : List Rect) → BadRests (is_listed points rects)
+listed_rests points rects f g r c same = refl
 
 pub mend_rests : (bad : (ℕ → ℕ → ℕ → ℕ) → ℕ → ℕ → Bool) → BadRests bad → (phase : ℕ) (input : Shape) (rect : Rect) → IsSingle input → IsPart rect input
     → RestsOn (λ at. mended_at (bad at) phase input.rows input.cols at) input.planes (grown rect 2 (whole_rect input.rows input.cols)) input.planes rect

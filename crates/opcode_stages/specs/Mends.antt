@@ -1,8 +1,10 @@
 -- Bad pixels that are mended (DNG 1.6, FixBadPixelsConstant and FixBadPixelsList). Which neighbours a bad pixel is mended
 -- from, and their mean, is this project's own.
 use Rattle.std.specs.Prelude.{ℕ, ◌+◌, ◌-◌, ◌*◌, ◌/◌, ◌%◌, ◌==◌, ◌&&◌, ◌||◌, not, Bool, true, false, nat_le, nat_lt, if◌then◌else◌, List, [], ◌∷◌, count_by}
-use Rattle.std.specs.List.{sum_by}
+use Rattle.std.specs.List.{sum_by, list_any}
+use Rattle.plane_view.specs.declared.Rect.{Rect}
 use Rattle.plane_view.specs.Plane.{Plane, sample, plane_of}
+use Rattle.plane_view.specs.Rectangles.{has_pixel}
 use Rattle.opcode_stages.specs.declared.steps.Step.{Step}
 
 -- whether a pixel is green. The phase tells the plane's top left pixel: 0 red, 1 green in a row of green and red, 2 green
@@ -73,3 +75,10 @@ mended bad phase P = plane_of P.rows P.cols P.planes (mended_at (bad (sample P))
 -- a pixel is bad where its sample equals a number
 abbrev pub equals : ℕ → (ℕ → ℕ → ℕ → ℕ) → ℕ → ℕ → Bool
 equals constant at r c = at r c 0 == constant
+
+-- a pixel is bad where it is one of some points, or lies in one of some rectangles
+abbrev pub is_point : List (ℕ × ℕ) → ℕ → ℕ → Bool
+is_point points r c = list_any (λ point. (point.0 == r) && (point.1 == c)) points
+
+abbrev pub is_listed : List (ℕ × ℕ) → List Rect → (ℕ → ℕ → ℕ → ℕ) → ℕ → ℕ → Bool
+is_listed points rects at r c = is_point points r c || list_any (has_pixel r c) rects

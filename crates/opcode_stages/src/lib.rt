@@ -4,12 +4,16 @@
 mod crop;
 mod defects;
 mod fix_constant;
+mod fix_list;
 mod map_rows;
 mod map_table;
+mod places;
+mod rects;
 mod steps;
 #[cfg(test)]
 mod tests;
 
 pub use crop::Crop;
 pub use fix_constant::FixConstant;
+pub use fix_list::FixList;
 pub use map_table::MapTable;

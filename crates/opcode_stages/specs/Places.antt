@@ -1,0 +1,21 @@
+-- The places of pixels, row by row, among rows of 2^32 pixels: this project's own.
+use Rattle.std.specs.Prelude.{◌≡◌, ℕ, ◌+◌, ◌*◌, ◌^◌, ◌<◌, ◌≤◌, ◌==◌, ◌⊎◌, true, List, length, slice_index, Option, Some, None}
+use Rattle.std.specs.List.{list_any}
+
+abbrev pub place_of : ℕ → ℕ → ℕ
+place_of r c = r * 2 ^ 32 + c
+
+-- no number is below one before it
+abbrev pub IsRising : List ℕ → Type 0
+IsRising xs = (i k : ℕ) → i ≤ k → k < length xs → slice_index xs i ≤ slice_index xs k
+
+-- the number is the least of a list that isn't below another
+pub record IsLeastFrom (xs : List ℕ) (low next : ℕ) : Type 0 where
+  pub not_below : low ≤ next
+  pub listed : list_any (λ x. x == next) xs ≡ true
+  pub least : (k : ℕ) → k < length xs → (slice_index xs k < low) ⊎ (next ≤ slice_index xs k)
+
+-- the least number of a list that isn't below another, if there is one
+abbrev pub IsFirstPlace : List ℕ → ℕ → Option ℕ → Type 0
+IsFirstPlace xs low None = (k : ℕ) → k < length xs → slice_index xs k < low
+IsFirstPlace xs low (Some next) = IsLeastFrom xs low next

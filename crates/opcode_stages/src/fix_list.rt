@@ -1,0 +1,120 @@
+//! The mending of listed pixels.
+
+ghost use Rattle.std.specs.Prelude.{◌≡◌, ℕ, ◌^◌, ◌<◌, ◌≤◌, IfOk};
+ghost use Rattle.plane_view.specs.Rectangles.{grown, whole_rect};
+ghost use Rattle.opcode_stages.specs.Mends.{is_point, is_listed, mended, mended_at};
+ghost use Rattle.opcode_stages.specs.MendRows.{IsSingle};
+ghost use Rattle.opcode_stages.specs.Indexes.{has_place};
+
+use crate::defects::{Defects, fill_row};
+use crate::places::Places;
+use crate::rects::{any_has, next_in};
+use lists::Items;
+use plane_view::{Rect, Shape, TileMut, View};
+use stage_core::{Stage, Steps};
+use std::alloc::{AllocError, Global};
+use std::sync::ledger::Ledger;
+
+/// Mends the pixels that are listed, as points and by rectangles: each becomes the mean of its good neighbours of the same
+/// colour. It takes planes of one sample a pixel. Two are equal where the lists are, as they were given.
+#[derive(Drop)]
+#[derive_where(Debug, PartialEq, Eq)]
+pub struct FixList {
+    phase: u8,
+    points: Items<(u32, u32)>,
+    rects: Items<Rect>,
+    #[derive_where(skip)]
+    places: Places,
+    ghost indexed: { (r c : ℕ) → c < 2 ^ 32 → has_place places r c ≡ is_point points r c },
+}
+
+impl FixList {
+    ghost use Rattle.opcode_stages.specs.MendStages.{pixels_of};
+
+    /// The mending of points (row, column) and of the pixels of rectangles. The phase tells the plane's top left pixel: 0 red,
+    /// 1 green in a row of green and red, 2 green in a row of green and blue, 3 blue.
+    ///
+    /// # Errors
+    ///
+    /// `AllocError` where there is no memory for the lists.
+    pub fn new(
+        alloc: Global,
+        phase: u8,
+        points: &[(u32, u32)],
+        rects: &[Rect],
+    ) -> Result<FixList, AllocError>
+        requires { phase ≤ 3 }
+        ensures { IfOk result (λ list. pixels_of list ≡ record { phase = phase; points = points.now; rects = rects.now }) }
+    {
+        let places = Places::new(alloc, points)?;
+        let points = Items::from_slice(alloc, points)?;
+        let rects = Items::from_slice(alloc, rects)?;
+        Ok(FixList {
+            phase,
+            points,
+            rects,
+            places,
+        })
+    }
+}
+
+impl Defects for FixList {
+    ghost bad = { λ s at. is_listed s.points s.rects at };
+
+    fn is_bad(&self, _input: &View<'_>, r: u32, c: u32) -> bool {
+        self.places.has(r, c) || any_has(self.rects.as_slice(), r, c)
+    }
+
+    fn next_bad(&self, _input: &View<'_>, r: u32, from: u32, to: u32) -> u32 {
+        let point = self.places.next(r, from, to);
+        next_in(self.rects.as_slice(), r, from, point)
+    }
+}
+
+impl Stage for FixList {
+    ghost use Rattle.opcode_stages.specs.MendLaws.{mend_needs, mend_rests, listed_rests};
+    ghost use Rattle.opcode_stages.specs.MendEquality.{list_alike};
+    ghost use Rattle.stage_core.proofs.Formulas.{planes_by, local_by};
+
+    ghost apply = { λ s P. mended (is_listed s.points s.rects) s.phase P };
+
+    ghost takes = { λ s input. IsSingle input };
+
+    ghost shaped = { λ s input. input };
+
+    ghost needed = { λ s input rect. grown rect 2 (whole_rect input.rows input.cols) };
+
+    fn shape(&self, input: Shape) -> Option<Shape> {
+        if input.planes == 1 {
+            Some(input)
+        } else {
+            None
+        }
+    }
+
+    fn need(&self, input: Shape, rect: Rect) -> Rect {
+        rect.grow(2, &input.rect())
+    }
+
+    fn run<L: Ledger>(
+        &self,
+        input: &View<'_>,
+        whole: Shape,
+        out: &mut TileMut<'_>,
+        work: &mut Steps<L>,
+    ) {
+        work.tick();
+        let rect = out.rect();
+        out.write_rows(|r, row| fill_row(self, self.phase, input, whole, rect, r, row));
+    }
+
+    ghost makes_shapes = { λ s input is takes. is };
+
+    ghost makes_planes = { λ s input P shape takes is. planes_by (λ t. t) (λ t at. mended_at (is_listed s.points s.rects at) s.phase t.rows t.cols at) input P is };
+
+    ghost needs_part = { λ s input rect shape takes part. mend_needs input rect part };
+
+    ghost local = { λ s input rect shape takes part. local_by (λ t. t) (λ t at. mended_at (is_listed s.points s.rects at) s.phase t.rows t.cols at) input (grown rect 2 (whole_rect input.rows input.cols)) rect part (mend_rests (is_listed s.points s.rects) (listed_rests s.points s.rects) s.phase input rect takes part) };
+
+    ghost equal_alike = { list_alike };
+}
