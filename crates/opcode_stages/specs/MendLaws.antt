@@ -40,17 +40,27 @@ same_sums f g (x ∷ xs) same =
 -- the steps are short
 steps_short : (green : Bool) → All IsShort (steps_of green)
 steps_short true =
-    All-from_recursion IsShort (steps_of true)
-    (record { up = omega arith; down = omega arith; left = omega arith; right = omega arith },
-    (record { up = omega arith; down = omega arith; left = omega arith; right = omega arith },
-    (record { up = omega arith; down = omega arith; left = omega arith; right = omega arith },
-    (record { up = omega arith; down = omega arith; left = omega arith; right = omega arith }, tt))))
+    All-from_recursion IsShort (steps_of true) (
+      record { up = omega arith; down = omega arith; left = omega arith; right = omega arith },
+      (
+        record { up = omega arith; down = omega arith; left = omega arith; right = omega arith },
+        (
+          record { up = omega arith; down = omega arith; left = omega arith; right = omega arith },
+          (record { up = omega arith; down = omega arith; left = omega arith; right = omega arith }, tt),
+        ),
+      ),
+    )
 steps_short false =
-    All-from_recursion IsShort (steps_of false)
-    (record { up = omega arith; down = omega arith; left = omega arith; right = omega arith },
-    (record { up = omega arith; down = omega arith; left = omega arith; right = omega arith },
-    (record { up = omega arith; down = omega arith; left = omega arith; right = omega arith },
-    (record { up = omega arith; down = omega arith; left = omega arith; right = omega arith }, tt))))
+    All-from_recursion IsShort (steps_of false) (
+      record { up = omega arith; down = omega arith; left = omega arith; right = omega arith },
+      (
+        record { up = omega arith; down = omega arith; left = omega arith; right = omega arith },
+        (
+          record { up = omega arith; down = omega arith; left = omega arith; right = omega arith },
+          (record { up = omega arith; down = omega arith; left = omega arith; right = omega arith }, tt),
+        ),
+      ),
+    )
 
 -- what holds of each short step holds of each of these
 each_step : (P : Step → Type 0) → ((step : Step) → IsShort step → P step) → (green : Bool) → All P (steps_of green)

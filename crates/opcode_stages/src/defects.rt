@@ -57,14 +57,7 @@ fn good_near<D: Defects>(
 }
 
 /// The sample of the bad pixel at row `r`, column `c`: the mean of its good neighbours, or its own where it has none.
-fn mend<D: Defects>(
-    defects: &D,
-    input: &View<'_>,
-    whole: Shape,
-    phase: u8,
-    r: u32,
-    c: u32,
-) -> u16
+fn mend<D: Defects>(defects: &D, input: &View<'_>, whole: Shape, phase: u8, r: u32, c: u32) -> u16
     requires whole { IsShape whole }
     requires planes { input.now.planes ≡ 1 }
     requires near { HasNear input.now.rect whole r c }

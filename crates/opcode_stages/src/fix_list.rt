@@ -85,11 +85,7 @@ impl Stage for FixList {
     ghost needed = { λ s input rect. grown rect 2 (whole_rect input.rows input.cols) };
 
     fn shape(&self, input: Shape) -> Option<Shape> {
-        if input.planes == 1 {
-            Some(input)
-        } else {
-            None
-        }
+        if input.planes == 1 { Some(input) } else { None }
     }
 
     fn need(&self, input: Shape, rect: Rect) -> Rect {

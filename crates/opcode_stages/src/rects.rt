@@ -11,9 +11,7 @@ use plane_view::Rect;
 pub(crate) fn any_has(rects: &[Rect], r: u32, c: u32) -> bool
     ensures { result ≡ list_any (has_pixel r c) rects.now }
 {
-    rects
-        .iter()
-        .any(|rect| rect.top <= r && r < rect.bottom && rect.left <= c && c < rect.right)
+    rects.iter().any(|rect| rect.top <= r && r < rect.bottom && rect.left <= c && c < rect.right)
 }
 
 /// The first column of row `r` from `from` on that is in one of the rectangles, or `to` where there is none before it.

@@ -6,6 +6,7 @@ ghost use Rattle.plane_view.specs.Rectangles.{area_of};
 ghost use Rattle.plane_view.specs.Shapes.{IsShape};
 ghost use Rattle.stage_core.specs.Planes.{IsPart};
 ghost use Rattle.opcode_stages.specs.MapStages.{mapping_of};
+ghost use Rattle.opcode_stages.specs.MendStages.{constant_of, phase_of, pixels_of};
 
 use super::*;
 use plane_view::{Rect, Shape, TileMut, View};
@@ -84,6 +85,20 @@ fn develop<S: Stage, L: Ledger>(
     let mut tile = TileMut::new(rect, made.planes, out);
     stage.run(&whole.sub(need), shape, &mut tile, &mut work);
     true
+}
+
+/// Whether two mendings of a number are equal: exactly where the number and the phase are.
+fn same_constants(a: &FixConstant, b: &FixConstant) -> bool
+    ensures { Decides result ((constant_of a.now ≡ constant_of b.now) × (phase_of a.now ≡ phase_of b.now)) }
+{
+    a == b
+}
+
+/// Whether two mendings of listed pixels are equal: exactly where the lists are, as they were given.
+fn same_lists(a: &FixList, b: &FixList) -> bool
+    ensures { Decides result (pixels_of a.now ≡ pixels_of b.now) }
+{
+    a == b
 }
 
 /// How many samples a plane or a part of one has here at most.
@@ -320,6 +335,163 @@ fn compares_maps(rt: HostRuntime) -> Result<(), Fail> {
     ] {
         let other = map(alloc, at, planes, pitches, table)?;
         assert_eq!(rt; same_maps(&first, &other), want);
+    }
+    Ok(())
+}
+
+/// The mending of listed pixels.
+fn list(alloc: Global, phase: u8, points: &[(u32, u32)], rects: &[Rect]) -> Result<FixList, Fail> {
+    if phase > 3 {
+        return Err(Fail::from("a list"));
+    }
+    Ok(FixList::new(alloc, phase, points, rects)?)
+}
+
+/// A red site whose neighbours two off are 10, 11, 20 and one that is bad too, and lies between 100 and 103.
+const RED: [u16; 25] = [
+    1, 2, 10, 4, 100, 5, 6, 7, 8, 9, 20, 30, 999, 40, 998, 12, 13, 14, 15, 16, 17, 18, 11, 19, 103,
+];
+
+/// Points and rectangles that are mended in that plane, and what becomes of it. Those outside of it change nothing.
+#[test]
+fn mends_listed_pixels(rt: HostRuntime) -> Result<(), Fail> {
+    let plane = shape(5, 5, 1);
+    let mut mended = RED;
+    mended[12] = 14;
+    mended[14] = 102;
+    let mut column = RED;
+    column[2] = 51;
+    column[7] = 19;
+    column[12] = 509;
+    column[17] = 27;
+    column[22] = 60;
+    for (points, rects, want) in [
+        (
+            [(2, 2), (7, 2)],
+            [rect(2, 4, 3, 5), rect(5, 0, 9, 9)],
+            mended,
+        ),
+        (
+            [(2, 4), (2, 2)],
+            [rect(2, 2, 3, 3), rect(3, 1, 3, 4)],
+            mended,
+        ),
+        (
+            [(9, 9), (0, 5)],
+            [rect(0, 2, 9, 3), rect(1, 2, 2, 3)],
+            column,
+        ),
+        ([(2, 2), (2, 2)], [rect(0, 0, 5, 5), rect(0, 0, 0, 0)], RED),
+        (
+            [(u32::MAX, u32::MAX), (0, u32::MAX)],
+            [rect(4, 0, 2, 5), rect(5, 5, u32::MAX, u32::MAX)],
+            RED,
+        ),
+    ] {
+        let list = list(rt.alloc(), 0, &points, &rects)?;
+        assert!(rt;
+            makes(&list, &RED, plane, plane.rect(), &want),
+            "{points:?}"
+        );
+        assert_eq!(rt; parts(&list, &RED, plane, plane), 225);
+        assert!(rt; list.shape(shape(5, 5, 3)).is_none());
+    }
+    Ok(())
+}
+
+/// A pixel between 100 and 103 two columns off, in a bad column.
+#[test]
+fn mends_a_column(rt: HostRuntime) -> Result<(), Fail> {
+    let list = list(rt.alloc(), 0, &[], &[rect(0, 2, 1, 3)])?;
+    let plane = shape(1, 5, 1);
+    assert!(rt;
+        makes(
+            &list,
+            &[100, 1, 9, 2, 103],
+            plane,
+            plane.rect(),
+            &[100, 1, 102, 2, 103]
+        )
+    );
+    Ok(())
+}
+
+/// A plane of 3 by 3.
+const NINE: [u16; 9] = [50, 2, 3, 4, 50, 6, 7, 8, 10];
+
+/// Which neighbours a pixel has by each phase, and that a bad neighbour isn't counted.
+#[test]
+fn mends_by_phase(rt: HostRuntime) -> Result<(), Fail> {
+    let plane = shape(3, 3, 1);
+    for (phase, listed, constant) in [
+        (
+            0,
+            [50, 5, 3, 4, 50, 6, 7, 8, 10],
+            [5, 2, 3, 4, 50, 6, 7, 8, 10],
+        ),
+        (
+            1,
+            [50, 8, 3, 4, 50, 6, 7, 8, 10],
+            [50, 2, 3, 4, 7, 6, 7, 8, 10],
+        ),
+        (
+            2,
+            [50, 8, 3, 4, 50, 6, 7, 8, 10],
+            [50, 2, 3, 4, 7, 6, 7, 8, 10],
+        ),
+        (
+            3,
+            [50, 5, 3, 4, 50, 6, 7, 8, 10],
+            [5, 2, 3, 4, 50, 6, 7, 8, 10],
+        ),
+    ] {
+        let list = list(rt.alloc(), phase, &[(0, 1)], &[])?;
+        assert!(rt;
+            makes(&list, &NINE, plane, plane.rect(), &listed),
+            "phase {phase}"
+        );
+        let fifty = FixConstant::new(50, phase);
+        assert!(rt;
+            makes(&fifty, &NINE, plane, plane.rect(), &constant),
+            "phase {phase}"
+        );
+        assert_eq!(rt; parts(&fifty, &NINE, plane, plane), 36);
+        assert!(rt; fifty.shape(shape(3, 3, 2)).is_none());
+        let large = FixConstant::new(65_586, phase);
+        assert!(rt;
+            makes(&large, &NINE, plane, plane.rect(), &NINE),
+            "phase {phase}"
+        );
+        assert!(rt; same_constants(&fifty, &FixConstant::new(50, phase)));
+        assert!(rt;
+            !same_constants(&fifty, &large)
+                && !same_constants(&fifty, &FixConstant::new(50, 3 - phase))
+        );
+    }
+    Ok(())
+}
+
+/// Lists are equal where the phase, the points and the rectangles are, in their order.
+#[test]
+fn compares_lists(rt: HostRuntime) -> Result<(), Fail> {
+    let alloc = rt.alloc();
+    let (one, other) = (rect(0, 0, 1, 1), rect(2, 2, 3, 3));
+    let first = list(alloc, 0, &[(1, 2), (3, 4)], &[one, other])?;
+    for (phase, points, rects, want) in [
+        (
+            0,
+            [(1, 2), (3, 4)].as_slice(),
+            [one, other].as_slice(),
+            true,
+        ),
+        (3, &[(1, 2), (3, 4)], &[one, other], false),
+        (0, &[(3, 4), (1, 2)], &[one, other], false),
+        (0, &[(1, 2), (3, 4)], &[other, one], false),
+        (0, &[(1, 2), (3, 4), (3, 4)], &[one, other], false),
+        (0, &[(1, 2), (3, 4)], &[one], false),
+    ] {
+        let second = list(alloc, phase, points, rects)?;
+        assert_eq!(rt; same_lists(&first, &second), want);
     }
     Ok(())
 }

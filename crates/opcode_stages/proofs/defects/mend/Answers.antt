@@ -24,23 +24,23 @@ loop-step-preserved g c =
     let below = c.loop-step-test.true in
     let within : i < length steps = omega arith in
     elim c.match-good_near.branch [
-      in-Some w ↦ (
-        let total = w.sum-is in
-        let number = w.count-is in
-        let added = w.from-sum.ensures in
-        let small : w.in-Some.sample ≤ 65535 = w.in-Some.ensures.small in
-        let now = counted_good bad whole.rows whole.cols (sample_at L) r k steps i none c.loop-step.sum c.loop-step.count w.in-Some.sample within (sym w.in-Some.is ∙ c.good_near.ensures.sample) so_far in
-        record {
-          count = number ∙ now.count;
-          sum = total ∙ ap (λ n. c.loop-step.sum + n) added ∙ now.sum;
-          few = omega arith;
-          most = omega arith;
-        })
-    | in_default w ↦ (
-        let total = w.sum-is in
-        let number = w.count-is in
-        let now = counted_bad bad whole.rows whole.cols (sample_at L) r k steps i none c.loop-step.sum c.loop-step.count within (sym w.in_default.is ∙ c.good_near.ensures.sample) so_far in
-        record { count = number ∙ now.count; sum = total ∙ now.sum; few = omega arith; most = omega arith })
+      | in-Some w ↦ (
+          let total = w.sum-is in
+          let number = w.count-is in
+          let added = w.from-sum.ensures in
+          let small : w.in-Some.sample ≤ 65535 = w.in-Some.ensures.small in
+          let now = counted_good bad whole.rows whole.cols (sample_at L) r k steps i none c.loop-step.sum c.loop-step.count w.in-Some.sample within (sym w.in-Some.is ∙ c.good_near.ensures.sample) so_far in
+          record {
+            count = number ∙ now.count;
+            sum = total ∙ ap (λ n. c.loop-step.sum + n) added ∙ now.sum;
+            few = omega arith;
+            most = omega arith;
+          })
+      | in_default w ↦ (
+          let total = w.sum-is in
+          let number = w.count-is in
+          let now = counted_bad bad whole.rows whole.cols (sample_at L) r k steps i none c.loop-step.sum c.loop-step.count within (sym w.in_default.is ∙ c.good_near.ensures.sample) so_far in
+          record { count = number ∙ now.count; sum = total ∙ now.sum; few = omega arith; most = omega arith })
     ]
 
 pub returns-else-count-eq0 : goal.returns-else-count-eq0
