@@ -1,11 +1,11 @@
 -- Rows that are mapped column by column.
-use Rattle.std.proofs.Common.{◌≡◌, ℕ, ◌+◌, ◌-◌, ◌*◌, ◌/◌, ◌%◌, ◌<◌, ◌≤◌, ◌≢◌, if◌then◌else◌, subst, ◌&&◌, eqb, leb, Bool, true, false, cond, List, length, get_or, set, min, refl, sym, ◌∙◌, ap, inl, inr, ⊎_elim, arith, Decides, get_or-set_same, get_or-set_other}
+use Rattle.std.proofs.Common.{◌≡◌, ℕ, ◌+◌, ◌-◌, ◌*◌, ◌/◌, ◌%◌, ◌<◌, ◌≤◌, ◌≢◌, if◌then◌else◌, subst, ◌&&◌, eqb, Bool, true, false, List, length, get_or, set, min, refl, sym, ◌∙◌, ap, ⊎_elim, arith, Decides, get_or-set_same, get_or-set_other}
 use Rattle.std.proofs.lemmas.Bool.{cases_eq, cases_lt}
 use Rattle.std.proofs.lemmas.Bool.Decides.{nat_tests, same_from_decides, Decides-eqb}
 use Rattle.std.proofs.lemmas.Nat.{div-mul-add, mod-mul-add}
 use Rattle.opcode_stages.specs.Maps.{entry_of}
-use Rattle.opcode_stages.specs.MapRows.{is_column, MapsColumns, IsFirstFrom}
-use Rattle.opcode_stages.proofs.Pitches.{short_mod, next_mod, past_mod}
+use Rattle.opcode_stages.specs.MapRows.{is_column, MapsColumns}
+use Rattle.opcode_stages.proofs.Pitches.{short_mod, next_mod}
 
 -- what the test of a column says
 pub record IsColumn (from to pitch k : ℕ) : Type 0 where

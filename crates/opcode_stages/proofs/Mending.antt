@@ -1,5 +1,5 @@
 -- How a bad pixel, and a row, is mended.
-use Rattle.std.proofs.Common.{◌≡◌, ℕ, ◌+◌, ◌-◌, ◌*◌, ◌/◌, ◌<◌, ◌≤◌, ◌==◌, ◌≢◌, Bool, true, false, if◌then◌else◌, List, length, take, get_or, refl, set, Option, Some, None, sym, ◌∙◌, ap, subst, ⊎_elim, arith, get_or-set_same, get_or-set_other, add-zero, ◌⊎◌}
+use Rattle.std.proofs.Common.{◌≡◌, ℕ, ◌+◌, ◌-◌, ◌*◌, ◌/◌, ◌<◌, ◌≤◌, ◌==◌, ◌≢◌, Bool, true, false, if◌then◌else◌, List, length, take, get_or, refl, set, Some, None, sym, ◌∙◌, ap, subst, ⊎_elim, arith, get_or-set_same, get_or-set_other, add-zero, ◌⊎◌}
 use Rattle.std.proofs.lemmas.List.Sums.{sum_by_more}
 use Rattle.std.proofs.lemmas.List.{take_all}
 use Rattle.std.proofs.lemmas.Bool.{cases_Bool, cases_order}

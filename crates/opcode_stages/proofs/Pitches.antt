@@ -1,5 +1,5 @@
 -- Multiples of a pitch, and the numbers between them.
-use Rattle.std.proofs.Common.{◌≡◌, ℕ, ◌+◌, ◌-◌, ◌*◌, ◌/◌, ◌%◌, ◌<◌, ◌≤◌, sym, ◌∙◌, ap, arith}
+use Rattle.std.proofs.Common.{◌≡◌, ℕ, ◌+◌, ◌-◌, ◌*◌, ◌/◌, ◌%◌, ◌<◌, ◌≤◌, ◌∙◌, ap, arith}
 use Rattle.std.proofs.lemmas.Nat.{div-add-mod', mod-mul-add, mod_below}
 use Rattle.std.proofs.Math.Nat.{zero-mod, mul-add-mod_self_right}
 use Rattle.opcode_stages.specs.MapRows.{IsFirstFrom}
@@ -57,3 +57,7 @@ first_past start pitch low past above some is_past not_at =
           let rest : (k - start) % pitch ≡ (low - start) % pitch + (k - low) = ap (λ n. n % pitch) same ∙ short_mod (low - start) (k - low) pitch (omega (arith, below, is_past)) in
           absurd (omega (arith, rest, step, is_past));
     }
+
+-- every number is a multiple of 1
+pub one_mod : (n : ℕ) → n % 1 ≡ 0
+one_mod n = let below : n % 1 < 1 = mod_below n 1 (omega arith) in omega arith

@@ -1,5 +1,5 @@
 -- When rectangles are equal.
-use Rattle.std.proofs.Common.{◌≡◌, true, Bool, eqb, ◌&&◌, ap, Decides}
+use Rattle.std.proofs.Common.{◌≡◌, Bool, eqb, ◌&&◌, ap, Decides}
 use Rattle.std.proofs.lemmas.Bool.Decides.{Decides-and, Decides-eqb, Decides-like}
 use Rattle.plane_view.specs.declared.Rect.{Rect}
 

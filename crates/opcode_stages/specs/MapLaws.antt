@@ -1,6 +1,6 @@
 -- Laws of maps as stages.
 use Rattle.std.specs.Prelude.{⊤}
-use Rattle.std.proofs.Common.{◌≡◌, ℕ, true, refl, ap, cond, Decides, if◌then◌else◌}
+use Rattle.std.proofs.Common.{◌≡◌, true, refl, ap, Decides, if◌then◌else◌}
 use Rattle.std.proofs.lemmas.Bool.Decides.{Decides-and, Decides-eqb, Decides-like}
 use Rattle.std.specs.Cmp.Lexicographic.{pointwise_decides}
 use Rattle.plane_view.specs.declared.Rect.{Rect}

@@ -1,6 +1,6 @@
 -- Bad pixels that are mended (DNG 1.6, FixBadPixelsConstant and FixBadPixelsList). Which neighbours a bad pixel is mended
 -- from, and their mean, is this project's own.
-use Rattle.std.specs.Prelude.{ℕ, ◌+◌, ◌-◌, ◌*◌, ◌/◌, ◌%◌, ◌==◌, ◌&&◌, ◌||◌, not, Bool, true, false, nat_le, nat_lt, if◌then◌else◌, List, [], ◌∷◌, count_by}
+use Rattle.std.specs.Prelude.{ℕ, ◌+◌, ◌-◌, ◌*◌, ◌/◌, ◌%◌, ◌==◌, ◌&&◌, ◌||◌, not, Bool, nat_le, nat_lt, if◌then◌else◌, List, [], ◌∷◌, count_by}
 use Rattle.std.specs.List.{sum_by, list_any}
 use Rattle.plane_view.specs.declared.Rect.{Rect}
 use Rattle.plane_view.specs.Plane.{Plane, sample, plane_of}

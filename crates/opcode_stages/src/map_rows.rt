@@ -25,6 +25,19 @@ pub(crate) fn first_from(start: u32, pitch: u32, low: u32) -> u64
     if past == 0 { low } else { low + (pitch - past) }
 }
 
+/// Maps the samples from one up to another of a row of one sample a pixel.
+fn map_run(table: &[u16], from: usize, to: usize, row: &mut [u16])
+    requires table { 1 ≤ length table.now }
+    requires order { from ≤ to }
+    requires row { to ≤ length row.old }
+    ensures { MapsColumns table.now row.old row.new 1 0 from to 1 }
+{
+    let last = table.len() - 1;
+    for k in from..to {
+        row[k] = table[usize::from(row[k]).min(last)];
+    }
+}
+
 /// Maps the samples of plane `p` at some columns of a row whose pixels have so many samples.
 pub(crate) fn map_columns(table: &[u16], planes: usize, p: usize, columns: Columns, row: &mut [u16])
     requires table { 1 ≤ length table.now }
@@ -36,6 +49,10 @@ pub(crate) fn map_columns(table: &[u16], planes: usize, p: usize, columns: Colum
     requires row { columns.to * planes ≤ length row.old }
     ensures { MapsColumns table.now row.old row.new planes p columns.from columns.to columns.pitch }
 {
+    if planes == 1 && columns.pitch == 1 && columns.from <= columns.to {
+        map_run(table, columns.from, columns.to, row);
+        return;
+    }
     let last = table.len() - 1;
     let mut k = columns.from;
     while k < columns.to {

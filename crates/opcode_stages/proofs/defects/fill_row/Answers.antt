@@ -1,4 +1,4 @@
-use Rattle.std.proofs.Common.{◌≡◌, ℕ, ◌+◌, ◌-◌, ◌*◌, ◌<◌, ◌≤◌, ◌∙◌, Bool, if◌then◌else◌, get_or, sym, ap, subst, arith}
+use Rattle.std.proofs.Common.{◌≡◌, ℕ, ◌+◌, ◌-◌, ◌*◌, ◌∙◌, Bool, if◌then◌else◌, get_or, ap, arith}
 use Rattle.plane_view.specs.Lent.{sample_at}
 use Rattle.opcode_stages.specs.Mends.{mended_at, mean_or, good_sum, good_count, steps_of, is_green}
 use Rattle.opcode_stages.proofs.Mending.{mended_more}

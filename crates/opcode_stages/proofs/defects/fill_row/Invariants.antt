@@ -1,5 +1,5 @@
 -- The columns before column c are written, and those from it on hold the input's samples.
-use Rattle.std.proofs.Common.{◌≡◌, ℕ, ◌-◌, ◌<◌, ◌≤◌, get_or, true}
+use Rattle.std.proofs.Common.{◌≡◌, ◌-◌, ◌<◌, ◌≤◌, true}
 use Rattle.plane_view.specs.Lent.{sample_at}
 use Rattle.opcode_stages.specs.Mends.{mended_at}
 use Rattle.opcode_stages.specs.MendRows.{IsMendedTo}

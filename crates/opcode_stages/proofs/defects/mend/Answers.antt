@@ -1,4 +1,4 @@
-use Rattle.std.proofs.Common.{◌≡◌, ◌+◌, ◌*◌, ◌<◌, ◌≤◌, ◌∙◌, sym, ap, take, length, arith}
+use Rattle.std.proofs.Common.{◌≡◌, ◌+◌, ◌<◌, ◌≤◌, ◌∙◌, sym, ap, take, length, arith}
 use Rattle.plane_view.specs.Lent.{sample_at}
 use Rattle.opcode_stages.specs.declared.steps.Step.{Step}
 use Rattle.opcode_stages.specs.Mends.{steps_of}

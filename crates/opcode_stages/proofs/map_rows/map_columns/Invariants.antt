@@ -1,5 +1,5 @@
 -- The columns before column k are mapped.
-use Rattle.std.proofs.Common.{◌≡◌, ◌-◌, ◌%◌, ◌≤◌, length, min}
+use Rattle.std.proofs.Common.{◌≡◌, ◌-◌, ◌%◌, ◌≤◌, min}
 use Rattle.opcode_stages.specs.MapRows.{MapsColumns}
 use Rattle.opcode_stages.proofs.map_rows.map_columns.Given as goal
 

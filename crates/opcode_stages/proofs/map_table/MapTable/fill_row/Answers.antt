@@ -1,4 +1,4 @@
-use Rattle.std.proofs.Common.{◌≡◌, ℕ, ◌+◌, ◌-◌, ◌∙◌, List, min, sym, ap, subst, arith}
+use Rattle.std.proofs.Common.{ℕ, ◌+◌, ◌-◌, ◌∙◌, List, min, sym, ap, subst}
 use Rattle.plane_view.specs.Lent.{IsRun}
 use Rattle.opcode_stages.specs.MapRows.{MapsPlanes}
 use Rattle.opcode_stages.specs.MapStages.{mapping_of}

@@ -1,6 +1,6 @@
-use Rattle.std.proofs.Common.{ℕ, ◌-◌, ◌<◌, ◌≤◌, length, get_or, ap, subst, sym, arith}
+use Rattle.std.proofs.Common.{ℕ, ◌-◌, ◌<◌, length, get_or, subst, sym, arith}
 use Rattle.opcode_stages.specs.Indexes.{has_place}
-use Rattle.opcode_stages.specs.Places.{place_of, IsLeastFrom}
+use Rattle.opcode_stages.specs.Places.{IsLeastFrom}
 use Rattle.opcode_stages.specs.MendRows.{IsNextBad}
 use Rattle.opcode_stages.proofs.Lookups.{next_found, next_past, next_none}
 use Rattle.opcode_stages.proofs.places.Places.next.Goals as goal
