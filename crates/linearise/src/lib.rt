@@ -9,6 +9,8 @@ mod rows;
 mod scale;
 mod settings;
 mod stage;
+#[cfg(test)]
+mod tests;
 
 pub use fault::LineariseFault;
 pub use stage::Linearise;
