@@ -1,5 +1,5 @@
 -- Multiplying and shifting give the quotient.
-use Rattle.std.proofs.Common.{◌≡◌, ℕ, ◌+◌, ◌-◌, ◌*◌, ◌/◌, ◌%◌, ◌^◌, ◌<◌, ◌≤◌, inl, inr, refl, sym, ◌∙◌, ap, arith, min, ℤ, pos, negsuc}
+use Rattle.std.proofs.Common.{◌≡◌, ℕ, ◌+◌, ◌-◌, ◌*◌, ◌/◌, ◌%◌, ◌^◌, ◌<◌, ◌≤◌, inl, inr, refl, subst, sym, ◌∙◌, ap, arith, min, ℤ, pos, negsuc}
 use Rattle.std.specs.Prelude.{◌+ℤ◌, ◌*ℤ◌, ◌<ℤ◌}
 use Rattle.std.specs.Int.{int_div_euclid}
 use Rattle.std.proofs.Math.Nat.{mul-le-mul_left, mul-add-div_right}
@@ -63,6 +63,30 @@ pub part_is : (span high low half shift x : ℕ) → IsScale span high low half 
     → (x * high + (x * low + half) / 2 ^ 32) / 2 ^ shift ≡ part_of span x
 part_is span high low half shift x is within =
     by_halves x high low half shift is.half_is ∙ quotient_is span half (high * 2 ^ 32 + low) x is.some is.wide is.factor within
+
+-- the half of a short shift
+half_of_short : (half shift : ℕ) → half ≡ 2 ^ (shift + 31) → shift ≡ 16 → half ≡ 2 ^ 47
+half_of_short half shift is short = is ∙ ap (λ n. 2 ^ (n + 31)) short
+
+-- what one product gives
+pub short_is : (span high low half shift x : ℕ) → IsScale span high low half shift → shift ≡ 16 → x ≤ span
+    → (x * (high * 2 ^ 32 + low) + 2 ^ 47) / 2 ^ 48 ≡ part_of span x
+short_is span high low half shift x is short within =
+    let now : half ≡ 2 ^ 47 = half_of_short half shift is.half_is short in
+    let factor = subst (λ (h : ℕ). IsFactor span h (high * 2 ^ 32 + low)) now is.factor in
+    quotient_is span (2 ^ 47) (high * 2 ^ 32 + low) x is.some (omega (arith, is.wide, now)) factor within
+
+-- that product has 64 bits
+pub short_fits : (span high low half shift x : ℕ) → IsScale span high low half shift → shift ≡ 16 → x ≤ span
+    → x * (high * 2 ^ 32 + low) + 2 ^ 47 < 2 ^ 64
+short_fits span high low half shift x is short within =
+    let now : half ≡ 2 ^ 47 = half_of_short half shift is.half_is short in
+    let factor : ℕ = high * 2 ^ 32 + low in
+    let least : x * factor ≤ span * factor = mul-le x factor span factor within (omega arith) in
+    let most : factor * span ≤ 65535 * (2 * half) + span = is.factor.high in
+    let turned : span * factor ≡ factor * span = omega arith in
+    let few : span < 2 ^ 29 = is.most in
+    omega arith
 
 -- a part is one of 65535
 pub part_small : (span x : ℕ) → 1 ≤ span → x ≤ span → part_of span x ≤ 65535

@@ -1,6 +1,6 @@
 //! Rows of linear values.
 
-ghost use Rattle.std.specs.Prelude.{◌≡◌, ◌*◌, ◌<◌, pos, ◌+ℤ◌, ◌-ℤ◌, length};
+ghost use Rattle.std.specs.Prelude.{◌≡◌, ◌*◌, ◌<◌, pos, ◌+ℤ◌, ◌-ℤ◌, length, IsTrue};
 ghost use Rattle.dng_tags.specs.Quantities.{AreWithin, IsWithin};
 ghost use Rattle.linearise.specs.Rows.{IsLinearTo, IsTabled};
 
@@ -30,8 +30,24 @@ pub(crate) fn make_linear(scale: Scale, across: &[i32], down: i32, out: &mut [u1
     requires down { IsWithin 16777216 down }
     ensures { IsLinearTo scale.span across.now down out.old out.new (length out.old) }
 {
+    if scale.is_short() {
+        make_linear_by(scale, true, across, down, out);
+    } else {
+        make_linear_by(scale, false, across, down, out);
+    }
+}
+
+/// The same, by one product a sample or by two: a loop of its own for each.
+#[inline(always)]
+fn make_linear_by(scale: Scale, short: bool, across: &[i32], down: i32, out: &mut [u16])
+    requires short { IsTrue short → scale.shift ≡ 16 }
+    requires long { length across.now ≡ length out.old }
+    requires across { AreWithin 33554432 across.now }
+    requires down { IsWithin 16777216 down }
+    ensures { IsLinearTo scale.span across.now down out.old out.new (length out.old) }
+{
     for k in 0..out.len() {
-        out[k] = scale.value(above_black(out[k], across[k], down));
+        out[k] = scale.value(short, above_black(out[k], across[k], down));
     }
 }
 

@@ -1,6 +1,6 @@
 //! Levels above black as parts of 65535.
 
-ghost use Rattle.std.specs.Prelude.{◌≡◌, ◌+◌, ◌*◌, ◌^◌, ◌<◌, ◌≤◌, pos};
+ghost use Rattle.std.specs.Prelude.{◌≡◌, ◌+◌, ◌*◌, ◌^◌, ◌<◌, ◌≤◌, pos, IsTrue};
 ghost use Rattle.linearise.specs.Linear.{rescaled};
 ghost use Rattle.linearise.specs.Scales.{IsFactor, IsScale, held_of, part_of};
 
@@ -16,7 +16,7 @@ pub(crate) struct Scale {
     high: u32,
     low: u32,
     half: u64,
-    shift: u32,
+    pub(crate) shift: u32,
     ghost exact: { IsScale span high low half shift },
 }
 
@@ -51,13 +51,45 @@ impl Scale {
         }
     }
 
-    /// A level above black, in 256ths, as a part of 65535.
+    /// Whether one product of 64 bits will do. That is so for a white level of up to 2^15.
+    pub(crate) fn is_short(self) -> bool
+        ensures { IsTrue result → self.shift ≡ 16 }
+    {
+        self.shift == 16
+    }
+
+    /// A level above black, in 256ths, as a part of 65535: by one product, or by two.
     #[inline(always)]
     #[tactic(auto, using(crate::proofs::Rescaling::rescaled_is))]
-    pub(crate) fn value(self, above: i32) -> u16
+    pub(crate) fn value(self, short: bool, above: i32) -> u16
+        requires { IsTrue short → self.shift ≡ 16 }
         ensures { result ≡ rescaled (pos self.span) above }
     {
-        self.part(held(above, self.span))
+        self.part_by(short, held(above, self.span))
+    }
+
+    #[inline(always)]
+    fn part_by(self, short: bool, held: u32) -> u16
+        requires short { IsTrue short → self.shift ≡ 16 }
+        requires held { held ≤ self.span }
+        ensures { result ≡ part_of self.span held }
+    {
+        if short {
+            self.short_part(held)
+        } else {
+            self.part(held)
+        }
+    }
+
+    /// A level from 0 to the span as a part of 65535, by one product: it is at most 65535 * 2^48 and a span.
+    #[inline(always)]
+    fn short_part(self, held: u32) -> u16
+        requires short { self.shift ≡ 16 }
+        requires held { held ≤ self.span }
+        ensures { result ≡ part_of self.span held }
+    {
+        let factor = u64::from(self.high) * (1 << 32) + u64::from(self.low);
+        ((u64::from(held) * factor + (1 << 47)) >> 48) as u16
     }
 
     /// A level from 0 to the span as a part of 65535.

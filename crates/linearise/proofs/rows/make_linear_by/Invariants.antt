@@ -1,5 +1,5 @@
 use Rattle.linearise.specs.Rows.{IsLinearTo}
-use Rattle.linearise.proofs.rows.make_linear.Given as goal
+use Rattle.linearise.proofs.rows.make_linear_by.Given as goal
 
 abbrev pub invariant-loop-k : goal.invariant-loop-k
 invariant-loop-k l = IsLinearTo l.scale.span l.across l.down l.initial.out l.out l.k

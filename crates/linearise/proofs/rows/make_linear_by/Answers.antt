@@ -3,7 +3,7 @@ use Rattle.std.specs.Prelude.{◌+ℤ◌, ◌-ℤ◌}
 use Rattle.std.specs.Int.{w32}
 use Rattle.std.proofs.lemmas.Int.{ints}
 use Rattle.linearise.proofs.LinearRows.{linear_more}
-use Rattle.linearise.proofs.rows.make_linear.Goals as goal
+use Rattle.linearise.proofs.rows.make_linear_by.Goals as goal
 
 pub loop-k-preserved : goal.loop-k-preserved
 loop-k-preserved c =
