@@ -1,5 +1,6 @@
 pub mod Blacks
 pub mod Equal
+pub mod FrameLevels
 pub mod Held
 pub mod Laws
 pub mod Linear
