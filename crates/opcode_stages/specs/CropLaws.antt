@@ -1,6 +1,5 @@
 -- Laws of crops.
-use Rattle.std.proofs.Common.{◌≡◌, ◌+◌, true, eqb, ◌&&◌, ap, subst, arith}
-use Rattle.std.proofs.lemmas.Bool.Decides.{nat_tests}
+use Rattle.std.proofs.Common.{◌≡◌, ◌+◌, true, ap, subst, arith, Decides}
 use Rattle.plane_view.specs.declared.Rect.{Rect}
 use Rattle.plane_view.specs.declared.Shape.{Shape}
 use Rattle.plane_view.specs.Plane.{crop}
@@ -10,7 +9,8 @@ use Rattle.stage_core.specs.Planes.{IsPart}
 use Rattle.stage_core.specs.Stages.{AreAlike, RestsOn}
 use Rattle.opcode_stages.specs.declared.crop.Crop.{Crop}
 use Rattle.opcode_stages.specs.contracts.crop.CropPartialEq.TheImpl.{ghosts}
-use Rattle.opcode_stages.specs.Crops.{cropped_shape, cropped_at}
+use Rattle.opcode_stages.specs.Crops.{cropped_to, cropped_shape, cropped_at}
+use Rattle.opcode_stages.specs.Equality.{rect_equality}
 
 pub crop_shapes : (q : Rect) (input : Shape) → IsShape input → IsPart q input → IsShape (cropped_shape q input)
 crop_shapes q input is part =
@@ -29,18 +29,14 @@ crop_rests q input rect = record {
   same = λ f g agree r c p pixel plane. agree (q.top + r) (q.left + c) p (record { top = omega arith; bottom = omega arith; left = omega arith; right = omega arith }) plane;
 }
 
-same_rects : (s t : Rect) → (eqb s.top t.top && (eqb s.left t.left && (eqb s.bottom t.bottom && eqb s.right t.right))) ≡ true → s ≡ t
-same_rects s t same =
-    let top : s.top ≡ t.top = grind (arith, nat_tests) in
-    let left : s.left ≡ t.left = grind (arith, nat_tests) in
-    let bottom : s.bottom ≡ t.bottom = grind (arith, nat_tests) in
-    let right : s.right ≡ t.right = grind (arith, nat_tests) in
-    λ i. record { top = top i; left = left i; bottom = bottom i; right = right i }
+-- two crops are equal exactly where their rectangles are
+pub crop_equality : (s t : Crop) → Decides (ghosts.eq s t) (cropped_to s ≡ cropped_to t)
+crop_equality s t = rect_equality s.rect t.rect
 
 -- equal crops are alike
 pub crop_alike : (s t : Crop) → ghosts.eq s t ≡ true → AreAlike (λ (s : Crop). IsPart s.rect) (λ (s : Crop). cropped_shape s.rect) (λ (s : Crop) input rect. shifted rect s.rect.top s.rect.left) (λ (s : Crop) P. crop P s.rect) s t
 crop_alike s t equal =
-    let same = same_rects s.rect t.rect equal in
+    let same : cropped_to s ≡ cropped_to t = (crop_equality s t).0 equal in
     record {
       inputs = λ input takes. subst (λ (q : Rect). IsPart q input) same takes;
       shapes = λ input. ap (λ (q : Rect). cropped_shape q input) same;

@@ -21,8 +21,8 @@ pub struct FixConstant {
 impl FixConstant {
     ghost use Rattle.opcode_stages.specs.MendStages.{constant_of, phase_of};
 
-    /// The mending of the pixels that hold `constant`. The phase tells the plane's top left pixel: 0 red, 1 green in a row of
-    /// green and red, 2 green in a row of green and blue, 3 blue.
+    /// The mending of the pixels that hold `constant`. The phase tells the plane's top left pixel: 0 red, 1 green in a
+    /// row of green and red, 2 green in a row of green and blue, 3 blue.
     pub fn new(constant: u32, phase: u8) -> FixConstant
         requires { phase ≤ 3 }
         ensures constant { constant_of result ≡ constant }

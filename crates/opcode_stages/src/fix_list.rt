@@ -15,8 +15,8 @@ use stage_core::{Stage, Steps};
 use std::alloc::{AllocError, Global};
 use std::sync::ledger::Ledger;
 
-/// Mends the pixels that are listed, as points and by rectangles: each becomes the mean of its good neighbours of the same
-/// colour. It takes planes of one sample a pixel. Two are equal where the lists are, as they were given.
+/// Mends the pixels that are listed, as points and by rectangles: each becomes the mean of its good neighbours of the
+/// same colour. It takes planes of one sample a pixel. Two are equal where the lists are, as they were given.
 #[derive(Drop)]
 #[derive_where(Debug, PartialEq, Eq)]
 pub struct FixList {
@@ -31,8 +31,8 @@ pub struct FixList {
 impl FixList {
     ghost use Rattle.opcode_stages.specs.MendStages.{pixels_of};
 
-    /// The mending of points (row, column) and of the pixels of rectangles. The phase tells the plane's top left pixel: 0 red,
-    /// 1 green in a row of green and red, 2 green in a row of green and blue, 3 blue.
+    /// The mending of points (row, column) and of the pixels of rectangles. The phase tells the plane's top left pixel:
+    /// 0 red, 1 green in a row of green and red, 2 green in a row of green and blue, 3 blue.
     ///
     /// # Errors
     ///

@@ -16,8 +16,8 @@ pub(crate) struct Step {
     right: u32,
 }
 
-/// Whether the pixel at row `r`, column `c` is green. The phase tells the top left pixel: 0 red, 1 green in a row of green
-/// and red, 2 green in a row of green and blue, 3 blue.
+/// Whether the pixel at row `r`, column `c` is green. The phase tells the top left pixel: 0 red, 1 green in a row of
+/// green and red, 2 green in a row of green and blue, 3 blue.
 pub(crate) fn is_green(phase: u8, r: u32, c: u32) -> bool
     requires { r + c < 2 ^ 32 }
     ensures { result ≡ is_green phase r c }
@@ -26,8 +26,8 @@ pub(crate) fn is_green(phase: u8, r: u32, c: u32) -> bool
     if phase == 0 || phase == 3 { odd } else { !odd }
 }
 
-/// The steps to the neighbours of a green pixel, the four diagonal ones; or of another one, those two rows or two columns
-/// off.
+/// The steps to the neighbours of a green pixel, the four diagonal ones; or of another one, those two rows or two
+/// columns off.
 pub(crate) fn steps_of(green: bool) -> [Step; 4]
     ensures steps { result ≡ steps_of green }
     ensures short { All IsShort result }

@@ -5,6 +5,7 @@ ghost use Rattle.std.specs.Bool.{Decides};
 ghost use Rattle.plane_view.specs.Rectangles.{area_of};
 ghost use Rattle.plane_view.specs.Shapes.{IsShape};
 ghost use Rattle.stage_core.specs.Planes.{IsPart};
+ghost use Rattle.opcode_stages.specs.Crops.{cropped_to};
 ghost use Rattle.opcode_stages.specs.MapStages.{mapping_of};
 ghost use Rattle.opcode_stages.specs.MendStages.{constant_of, phase_of, pixels_of};
 
@@ -50,7 +51,8 @@ fn is_part(rect: Rect, shape: Shape) -> bool
     rect.top < rect.bottom && rect.left < rect.right && shape.rect().contains(&rect)
 }
 
-/// Runs a stage over a rectangle, from no more of the plane than it needs. False: the shape is refused, or a size is wrong.
+/// Runs a stage over a rectangle, from no more of the plane than it needs. False: the shape is refused, or a size is
+/// wrong.
 fn develop<S: Stage, L: Ledger>(
     stage: &S,
     plane: &[u16],
@@ -229,7 +231,15 @@ fn crops(rt: HostRuntime) {
     assert!(rt; right.shape(shape(1, 1, 3)).is_none());
     assert!(rt; Crop::new(rect(1, 2, 5, 5)).shape(plane).is_none());
     assert!(rt; Crop::new(rect(1, 2, 4, 6)).shape(plane).is_none());
-    assert!(rt; right != Crop::new(rect(0, 0, 1, 2)));
+    assert!(rt; !same_crops(&right, &Crop::new(rect(0, 0, 1, 2))));
+    assert!(rt; same_crops(&right, &Crop::new(rect(0, 1, 1, 2))));
+}
+
+/// Whether two crops are equal: exactly where their rectangles are.
+fn same_crops(a: &Crop, b: &Crop) -> bool
+    ensures { Decides result (cropped_to a.now ≡ cropped_to b.now) }
+{
+    a == b
 }
 
 /// Whether two maps are equal: exactly where what they change and their tables are.
