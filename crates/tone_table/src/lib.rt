@@ -1,10 +1,14 @@
-//! Tone curves.
+//! Tone curves, and their tables as a stage.
 #![tactic(auto)]
 
 ghost use Rattle.std.specs.Prelude.{◌≡◌, ◌≤◌, IsTrue, length};
 ghost use Rattle.tone_table.specs.Knots.{are_knots, knots_of, rise_to};
 
+mod fills;
+mod tone;
+
 use std::marker::Model;
+pub use tone::Tone;
 
 /// The most knots that a curve has.
 pub const MAX_KNOTS: usize = 16;

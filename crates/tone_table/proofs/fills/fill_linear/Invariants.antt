@@ -1,0 +1,5 @@
+use Rattle.tone_table.specs.Fills.{HasEntries}
+use Rattle.tone_table.proofs.fills.fill_linear.Given as goal
+
+abbrev pub invariant-loop-x : goal.invariant-loop-x
+invariant-loop-x l = HasEntries (λ x. x) l.table 0 l.x
