@@ -1,14 +1,13 @@
 -- What each way for a run to end gives of its promise.
-use Rattle.std.proofs.Common.{◌≡◌, ℕ, ◌+◌, ◌^◌, ◌<◌, ◌≤◌, ◌⊎◌, inl, inr, List, [], ◌++◌, length, take, Option, None, Some, Result, Ok, Err, refl, sym, ◌∙◌, ap, subst, arith, length-append}
-use Rattle.std.specs.Prelude.{IfSome, IsOk, IsErr}
+use Rattle.std.proofs.Common.{◌≡◌, ℕ, ◌+◌, ◌<◌, ◌≤◌, inl, inr, List, [], ◌++◌, length, take, Option, None, Some, Ok, Err, refl, sym, ◌∙◌, ap, subst, arith, length-append}
+use Rattle.std.specs.Prelude.{IfSome, IsOk}
 use Rattle.std.proofs.lemmas.Bool.{lt-ltb, le-ltb}
 use Rattle.std.proofs.lemmas.List.{append-nil, take-append-le}
-use Rattle.raw_io.specs.Outside.{IsFrontOf, Rises, Takes}
+use Rattle.raw_io.specs.Outside.{IsFrontOf, Takes}
 use Rattle.dev_settings.specs.Lines.{all_lines, lines_of}
-use Rattle.developer.specs.Words.{Options, options}
-use Rattle.developer.specs.Opening.{Opened, Opening, Transcript, opened}
-use Rattle.developer.specs.Transcript.{answers_of, by_opening, by_script, by_told_script, max_script, transcript}
-use Rattle.developer.specs.Run.{Call, Completes, Ends, IsCalled, IsOpened, IsPrefix, IsRefused, NoFault, called, opening}
+use Rattle.developer.specs.Opening.{Opened, Opening, Transcript}
+use Rattle.developer.specs.Transcript.{answers_of, by_opening, by_script, by_told_script, max_script}
+use Rattle.developer.specs.Run.{Call, Completes, Ends, IsCalled, IsOpened, IsPrefix, called, opening}
 use Rattle.developer.specs.declared.status.Status.{Status}
 use Rattle.developer.specs.declared.status.Status.TheVariants.{Done, Usage, ReadFault, WriteFault, Memory, ScriptTooLong}
 use Rattle.developer.specs.declared.status.Status.TheVariants as statuses

@@ -4,5 +4,5 @@ mod Images
 mod Openings
 mod Outsides
 mod Pieces
-mod Samples
+mod Development
 mod Written

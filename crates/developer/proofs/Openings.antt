@@ -1,17 +1,18 @@
 -- What is called for before the script, of a file that was read.
-use Rattle.std.proofs.Common.{◌≡◌, ◌≢◌, ℕ, ◌^◌, ◌<◌, ◌≤◌, List, length, Option, None, Some, Result, Ok, Err, refl, sym, ◌∙◌, ap, subst}
+use Rattle.std.proofs.Common.{◌≡◌, ◌≢◌, ℕ, ◌^◌, ◌<◌, ◌≤◌, List, length, Option, None, Some, Result, Ok, Err, refl, ◌∙◌, ap, subst}
 use Rattle.std.specs.Prelude.{IfSome, IsErrOf}
 use Rattle.std.proofs.lemmas.Bool.{le-ltb, lt-ltb}
 use Rattle.raw_io.specs.Outside.{Rises}
 use Rattle.raw_io.specs.declared.whole.ReadFault.{ReadFault}
 use Rattle.raw_io.specs.declared.whole.ReadFault.TheVariants as reads
 use Rattle.dng_tags.specs.Answers.{and_then}
+use Rattle.dng_tags.specs.Frame.{frame_of}
 use Rattle.dng_tags.specs.Raw.{undecoded}
 use Rattle.dng_tags.specs.declared.record.Frame.{Frame}
 use Rattle.dng_tags.specs.declared.faults.FrameFault.{FrameFault}
 use Rattle.dng_tags.specs.declared.faults.FrameFault.TheVariants.{TooLong}
 use Rattle.dng_tags.specs.declared.faults.FrameFault.TheVariants as frames
-use Rattle.developer.specs.Opening.{Opened, Opening, built_frame, file_frame, if_decoded, opened_as, opened_file, refused_frame}
+use Rattle.developer.specs.Opening.{Opening, file_frame, if_decoded, opened_as, opened_file, refused_frame}
 use Rattle.developer.specs.Opens.{OpensFile, open_fault, refused_or_memory}
 use Rattle.developer.proofs.Outsides.{if_some}
 
@@ -21,16 +22,16 @@ unfolding file_frame
 too_long bytes long = rw (lt-ltb (2 ^ 28) (length bytes) long) refl
 
 -- a file that isn't
-pub frame_of_file : (bytes : List ℕ) → length bytes ≤ 2 ^ 28 → file_frame bytes ≡ and_then (built_frame bytes) (λ frame. if_decoded frame (undecoded bytes frame))
+pub frame_of_file : (bytes : List ℕ) → length bytes ≤ 2 ^ 28 → file_frame bytes ≡ and_then (frame_of bytes) (λ frame. if_decoded frame (undecoded bytes frame))
 unfolding file_frame
 frame_of_file bytes short = rw (le-ltb (2 ^ 28) (length bytes) short) refl
 
 -- a file whose frame is refused, before its segments are looked at
-pub file_refused : (bytes : List ℕ) (fault : FrameFault) → length bytes ≤ 2 ^ 28 → built_frame bytes ≡ Err fault → file_frame bytes ≡ Err fault
+pub file_refused : (bytes : List ℕ) (fault : FrameFault) → length bytes ≤ 2 ^ 28 → frame_of bytes ≡ Err fault → file_frame bytes ≡ Err fault
 file_refused bytes fault short is = frame_of_file bytes short ∙ ap (λ (r : Result Frame FrameFault). and_then r (λ frame. if_decoded frame (undecoded bytes frame))) is
 
 -- a file with a frame, by its segments
-pub file_decoded : (bytes : List ℕ) (frame : Frame) (refusal : Option FrameFault) → length bytes ≤ 2 ^ 28 → built_frame bytes ≡ Ok frame → undecoded bytes frame ≡ refusal → file_frame bytes ≡ if_decoded frame refusal
+pub file_decoded : (bytes : List ℕ) (frame : Frame) (refusal : Option FrameFault) → length bytes ≤ 2 ^ 28 → frame_of bytes ≡ Ok frame → undecoded bytes frame ≡ refusal → file_frame bytes ≡ if_decoded frame refusal
 file_decoded bytes frame refusal short is decoded =
     frame_of_file bytes short
     ∙ (ap (λ (r : Result Frame FrameFault). and_then r (λ f. if_decoded f (undecoded bytes f))) is ∙ ap (if_decoded frame) decoded)

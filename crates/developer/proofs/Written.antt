@@ -1,8 +1,8 @@
 -- Writing one run of bytes after another.
-use Rattle.std.proofs.Common.{◌≡◌, ℕ, ◌+◌, ◌≤◌, List, [], ◌++◌, length, take, drop, Result, Ok, Err, refl, sym, ◌∙◌, ap, subst, append_assoc, arith, length-append}
+use Rattle.std.proofs.Common.{◌≡◌, ℕ, ◌+◌, List, [], ◌++◌, length, take, Result, Ok, Err, refl, sym, ◌∙◌, ap, subst, arith, length-append}
 use Rattle.std.proofs.lemmas.List.{take-append-le}
 use Rattle.std.proofs.Math.Seq.{take-append-add}
-use Rattle.raw_io.specs.Outside.{Appends, Rises}
+use Rattle.raw_io.specs.Outside.{Appends}
 use Rattle.raw_io.specs.declared.whole.WriteFault.{WriteFault}
 use Rattle.developer.specs.Writes.{Writes}
 use Rattle.developer.proofs.Outsides.{appends_nothing, appends_then, rises_last}

@@ -1,5 +1,5 @@
 -- Answering lines one after the other, over any state. This is this project's own.
-use Rattle.std.specs.Prelude.{◌≡◌, ℕ, List, [], ◌∷◌, ◌++◌, refl}
+use Rattle.std.specs.Prelude.{ℕ, List, [], ◌∷◌, ◌++◌}
 
 -- what a line is answered with: the bytes, and the state after it
 pub record Answer (State : Type 0) : Type 0 where

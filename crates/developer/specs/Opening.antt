@@ -1,12 +1,11 @@
 -- What the words and the files call for, before the script. This is this project's own.
 use Rattle.std.specs.Prelude.{ℕ, ◌^◌, nat_lt, if◌then◌else◌, List, length, Option, None, Some, Result, Ok, Err}
 use Rattle.dng_tags.specs.Answers.{and_then}
-use Rattle.dng_tags.specs.Built.{is_built}
 use Rattle.dng_tags.specs.Frame.{frame_of}
 use Rattle.dng_tags.specs.Raw.{undecoded}
 use Rattle.dng_tags.specs.declared.record.Frame.{Frame}
 use Rattle.dng_tags.specs.declared.faults.FrameFault.{FrameFault}
-use Rattle.dng_tags.specs.declared.faults.FrameFault.TheVariants.{NotYet, TooLong}
+use Rattle.dng_tags.specs.declared.faults.FrameFault.TheVariants.{TooLong}
 use Rattle.developer.specs.Words.{Options, options}
 use Rattle.developer.specs.Refusals.{refusal_line, usage_line}
 use Rattle.developer.specs.declared.status.Status.{Status}
@@ -34,25 +33,17 @@ refused_words = Err (record { bytes = usage_line; status = statuses.Usage })
 abbrev pub refused_frame : FrameFault → Transcript
 refused_frame fault = record { bytes = refusal_line fault; status = statuses.Frame }
 
--- a frame of a form that is developed today, or its refusal
-abbrev pub if_built : Frame → Result Frame FrameFault
-if_built frame = if is_built frame then Ok frame else Err NotYet
-
 -- a frame each of whose segments can be decoded, or the refusal of the first that can't be
 abbrev pub if_decoded : Frame → Option FrameFault → Result Frame FrameFault
 if_decoded frame None = Ok frame
 if_decoded frame (Some fault) = Err fault
-
--- the frame of a file of at most 2^28 bytes, of a form that is developed today, or its first refusal
-unfoldable pub built_frame : List ℕ → Result Frame FrameFault
-built_frame bytes = and_then (frame_of bytes) if_built
 
 -- the frame of a file, or its first refusal
 unfoldable pub file_frame : List ℕ → Result Frame FrameFault
 file_frame bytes =
     if nat_lt (2 ^ 28) (length bytes)
     then Err TooLong
-    else and_then (built_frame bytes) (λ frame. if_decoded frame (undecoded bytes frame))
+    else and_then (frame_of bytes) (λ frame. if_decoded frame (undecoded bytes frame))
 
 -- of a file's bytes, which are a frame or its refusal
 abbrev pub opened_as : List ℕ → Result Frame FrameFault → Opening

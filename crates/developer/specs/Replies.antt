@@ -1,5 +1,5 @@
 -- The answer to a line of the script. All of it is this project's own.
-use Rattle.std.specs.Prelude.{ℕ, ◌+◌, ◌^◌, nat_le, ◌&&◌, if◌then◌else◌, List, ◌++◌, length, Option, None, Some, Result, Ok, Err, codes}
+use Rattle.std.specs.Prelude.{ℕ, ◌+◌, ◌^◌, nat_le, ◌&&◌, if◌then◌else◌, List, ◌++◌, length, Option, None, Some, Result, Ok, codes}
 use Rattle.plane_view.specs.Plane.{Plane, crop}
 use Rattle.plane_view.specs.declared.Rect.{Rect}
 use Rattle.dev_settings.specs.Commands.{command_of}

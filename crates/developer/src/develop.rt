@@ -1,48 +1,75 @@
 //! The whole development of a frame.
 
-ghost use Rattle.std.specs.Prelude.{◌≡◌, ◌≢◌, ◌+◌, ◌-◌, ◌*◌, ◌≤◌, ◌<◌, false, length, IfErr, IfOk, IfSome, None, OnOk, Some, take, drop};
+ghost use Rattle.std.specs.Prelude.{◌≡◌, ◌≢◌, ℕ, List, ◌+◌, ◌-◌, ◌*◌, ◌≤◌, ◌<◌, length, IfErr, IfOk, IfSome, None, OnOk, Some, take, drop};
+ghost use Rattle.stage_core.specs.Stages.{shape_of};
+ghost use Rattle.stage_chain.specs.Chains.{TakeInTurn, whole_of};
 ghost use Rattle.dng_tags.specs.Facts.{IsFrame};
 ghost use Rattle.dng_tags.specs.Raw.{undecoded};
-ghost use Rattle.developer.specs.Develop.{IsDeveloped, IsWithin, develop};
+ghost use Rattle.dev_stages.specs.Members.{apply_of, shaped_of, takes_of};
+ghost use Rattle.developer.specs.Develop.{IsDeveloped, IsWithin, develop, standard_stages};
 ghost use Rattle.developer.specs.Replies.{part_of};
 
+use dev_settings::Settings;
+use dev_stages::{DevStage, PlanFault, plan};
 use dng_tags::{Frame, FrameFault};
 use frame_segments::Segments;
-use plane_view::Rect;
-use stage_core::{Base, Steps, fetch_all};
-use std::alloc::Global;
+use plane_view::{Rect, Shape};
+use stage_chain::{WholePlane, run_in_turn};
+use stage_core::{Base, Steps};
+use std::alloc::{AllocError, Global};
 use std::marker::{Brand, Model};
 use std::sync::ledger::{Blank, Ledger};
 
 /// A developed plane: red, green and blue of each pixel. Contracts see it as a plane of samples.
 #[derive(Drop)]
 pub struct Developed {
-    rows: u32,
-    cols: u32,
-    samples: Vec<u16>,
+    plane: WholePlane,
 }
 
 impl Model for Developed {
-    ghost use Rattle.std.specs.Prelude.{◌≡◌, ◌≤◌, ◌*◌, length};
+    ghost use Rattle.std.specs.Prelude.{◌≡◌};
     ghost use Rattle.plane_view.specs.Plane.{Plane};
 
     ghost Value = { Plane };
 
-    ghost view = { λ d. record { rows = d.rows; cols = d.cols; planes = 3; samples = d.samples.items } };
+    ghost view = { λ d. d.plane };
 
-    ghost invariant = { λ d. (d.rows ≤ 8192) × (d.cols ≤ 8192) × (length d.samples.items ≡ d.rows * d.cols * 3) };
+    ghost invariant = { λ d. d.plane.planes ≡ 3 };
 }
 
-/// Fetches a whole plane, and counts nothing.
-fn fetch_plane<B: Base, L: Ledger>(base: &mut B, samples: &mut [u16], blank: Blank)
+/// Runs stages one after the other over the plane of a base, and counts nothing.
+fn run_stages<B: Base, L: Ledger>(
+    alloc: Global,
+    base: &mut B,
+    stages: &[DevStage],
+    blank: Blank,
+) -> Result<WholePlane, AllocError>
     requires name { blank.name ≡ L.name }
     requires parts { blank.parts ≡ L.parts }
     requires some { 0 < blank.parts }
-    requires whole { length samples.old ≡ length (B.plane base.old).samples }
-    ensures { samples.new ≡ (B.plane base.old).samples }
+    requires takes { TakeInTurn takes_of shaped_of stages.now (shape_of (B.plane base.old)) }
+    ensures { IfOk result (λ plane. plane ≡ whole_of apply_of stages.now (B.plane base.old)) }
 {
     let mut work = Steps::<L>::new(blank);
-    fetch_all(base, samples, &mut work);
+    let raw = WholePlane::fetch(alloc, base, &mut work)?;
+    run_in_turn(stages, raw, Vec::new(alloc), &mut work)
+}
+
+/// The stages of an accepted frame where nothing is set.
+///
+/// # Errors
+///
+/// `AllocError` where there is no memory.
+fn standard_plan(alloc: Global, frame: &Frame) -> Result<Vec<DevStage>, AllocError>
+    requires { (bytes : List ℕ) × IsFrame frame.now bytes }
+    ensures stages { IfOk result (λ stages. stages.items ≡ standard_stages frame.now) }
+    ensures chain { IfOk result (λ stages. TakeInTurn takes_of shaped_of stages.items frame.now.shape) }
+{
+    match plan(alloc, frame, &Settings::standard()) {
+        Ok(stages) => Ok(stages),
+        Err(PlanFault::Memory) => Err(AllocError),
+        Err(PlanFault::Matrix | PlanFault::Levels) => unreachable!(),
+    }
 }
 
 impl Developed {
@@ -53,32 +80,18 @@ impl Developed {
     /// `Segment` exactly where a segment can't be decoded; `Memory` where there is no memory.
     pub fn new(alloc: Global, bytes: &[u8], frame: &Frame) -> Result<Developed, FrameFault>
         requires frame { IsFrame frame.now bytes.now }
-        requires packed { frame.now.lossless ≡ false }
         ensures developed { IfOk result (λ plane. plane ≡ develop bytes.now frame.now) }
         ensures decoded { OnOk result (undecoded bytes.now frame.now ≡ None) }
         ensures refused { IfErr result (λ fault. fault ≢ FrameFault.Memory → undecoded bytes.now frame.now ≡ Some fault) }
     {
         let mut segments = Segments::open(alloc, bytes, frame)?;
-        let pixels = frame.shape.rows as usize * frame.shape.cols as usize;
-        let Ok(mut raw) = vec![in alloc; 0u16; pixels] else {
+        let Ok(stages) = standard_plan(alloc, frame) else {
             return Err(FrameFault::Memory);
         };
-        fetch_plane::<Segments<'_>, Brand>(&mut segments, &mut raw, Blank::new(1));
-        let Ok(mut samples) = vec![in alloc; 0u16; 3 * pixels] else {
-            return Err(FrameFault::Memory);
-        };
-        malvar::whole(
-            &raw,
-            frame.shape.rows,
-            frame.shape.cols,
-            frame.cfa,
-            &mut samples,
-        );
-        Ok(Developed {
-            rows: frame.shape.rows,
-            cols: frame.shape.cols,
-            samples,
-        })
+        match run_stages::<Segments<'_>, Brand>(alloc, &mut segments, &stages, Blank::new(1)) {
+            Ok(plane) => Ok(Developed { plane }),
+            Err(_) => Err(FrameFault::Memory),
+        }
     }
 
     /// The rectangle of `w` columns from `x` and `h` rows from `y`, where it lies in the plane.
@@ -87,9 +100,10 @@ impl Developed {
         ensures within { IfSome result (λ rect. IsWithin rect self.now) }
         ensures developed { IsDeveloped self.now }
     {
+        let Shape { rows, cols, .. } = self.plane.shape();
         let right = u64::from(x) + u64::from(w);
         let bottom = u64::from(y) + u64::from(h);
-        if right <= u64::from(self.cols) && bottom <= u64::from(self.rows) {
+        if right <= u64::from(cols) && bottom <= u64::from(rows) {
             Some(Rect {
                 top: y,
                 left: x,
@@ -110,7 +124,6 @@ impl Developed {
         ensures length { length result.now ≡ (right - left) * 3 }
         ensures developed { IsDeveloped self.now }
     {
-        let first = 3 * (row as usize * self.cols as usize + left as usize);
-        &self.samples[first..first + 3 * (right - left) as usize]
+        self.plane.row(row, left, right)
     }
 }

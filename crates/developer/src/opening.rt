@@ -1,11 +1,9 @@
 //! Opening a frame: the words, the frame's file, its record and its developed plane.
 
-ghost use Rattle.std.specs.Prelude.{◌≡◌, ℕ, ◌^◌, ◌≤◌, false, length, List, [], Option, Some, map, string_bytes, IfErr, IfOk, IfSome, OnOk, Ok};
+ghost use Rattle.std.specs.Prelude.{◌≡◌, ℕ, ◌≤◌, List, [], Option, Some, map, string_bytes, IfErr, IfOk, IfSome, OnOk, Ok};
 ghost use Rattle.raw_io.specs.Outside.{Appends};
-ghost use Rattle.dng_tags.specs.Answers.{Answers};
-ghost use Rattle.dng_tags.specs.Facts.{IsFrame};
 ghost use Rattle.developer.specs.Develop.{develop};
-ghost use Rattle.developer.specs.Opening.{built_frame, opened};
+ghost use Rattle.developer.specs.Opening.{opened};
 ghost use Rattle.developer.specs.Opens.{OpensFile, Refuses};
 ghost use Rattle.developer.specs.Refusals.{refusal_line};
 ghost use Rattle.developer.specs.Run.{Ends, status_of};
@@ -81,21 +79,6 @@ impl From<FrameFault> for OpenFault {
     }
 }
 
-/// The frame of a file of at most [`MAX_BYTES`] bytes, of a form that is developed today.
-#[tactic(auto, unfolding(crate::specs::Opening::built_frame))]
-fn read_built(alloc: Global, bytes: &[u8]) -> Result<Frame, FrameFault>
-    requires { length bytes.now ≤ 2 ^ 28 }
-    ensures answer { Answers result (built_frame bytes.now) }
-    ensures frame { IfOk result (λ frame. IsFrame frame bytes.now) }
-    ensures packed { IfOk result (λ frame. frame.lossless ≡ false) }
-{
-    let frame = read_frame(alloc, bytes)?;
-    if !frame.is_built() {
-        return Err(FrameFault::NotYet);
-    }
-    Ok(frame)
-}
-
 impl OpenedFrame {
     /// Reads and develops the frame in a file.
     fn read<F: Files>(alloc: Global, files: &mut F, name: &str) -> Result<OpenedFrame, OpenFault>
@@ -104,7 +87,7 @@ impl OpenedFrame {
         ensures opens { OpensFile (F.told files.old name.now) (F.faults files.old name.now) (F.faults files.new name.now) result }
     {
         let bytes = read_all(alloc, files, name, MAX_BYTES)?;
-        let frame = read_built(alloc, &bytes)?;
+        let frame = read_frame(alloc, &bytes)?;
         let plane = Developed::new(alloc, &bytes, &frame)?;
         Ok(OpenedFrame {
             bytes,

@@ -1,10 +1,13 @@
 //! Tests of the whole run, over files, a script and a sink in memory.
 
+ghost use Rattle.std.specs.Prelude.{◌≡◌, ◌≤◌, ◌⊎◌};
+
 use crate::{Status, run};
+use ljpeg_predict::{EncodeFault, encode};
 use raw_io::{MemFiles, MemSink, MemSource};
 use std::alloc::{AllocError, Global};
 use std::test::Fail;
-use test_frames::{TestFrame, bright_red, flat, patch};
+use test_frames::{TestFrame, bright_red, flat, patch, plain};
 use tiff_dirs::Order;
 use tiff_write::{Field, Place};
 
@@ -191,17 +194,15 @@ fn frames_are_refused(rt: HostRuntime) -> Result<(), Fail> {
 /// An entry of 16-bit numbers in place of the flat frame's, and the line that it is refused with.
 type Refusal = (u16, &'static [u16], &'static [u8]);
 
-fn refusals() -> [Refusal; 9] {
+fn refusals() -> [Refusal; 7] {
     [
         (254, &[1], b"refused NoRaw\n"),
         (262, &[34892], b"refused Photometric 34892\n"),
         (259, &[8], b"refused Compression 8\n"),
-        (259, &[7], b"refused NotYet\n"),
+        (259, &[7], b"refused Segment 0 Jpeg NoStart\n"),
         (258, &[32], b"refused Depth 32\n"),
-        (258, &[12], b"refused NotYet\n"),
         (256, &[9000], b"refused Size\n"),
         (278, &[0], b"refused Layout\n"),
-        (50717, &[4095], b"refused NotYet\n"),
     ]
 }
 
@@ -218,6 +219,9 @@ fn entries_are_refused_by_name(rt: HostRuntime) -> Result<(), Fail> {
     let short = flat(alloc)?.with(Field::longs(alloc, 279, &[31])?)?;
     let file = short.bytes(alloc, Order::Little)?;
     assert!(rt; is_refused(alloc, &file, b"refused Segment 0 Short 32 31\n")?);
+    let opcodes = flat(alloc)?.with(Field::bytes(alloc, 51008, &[0, 0, 0, 0, 0])?)?;
+    let file = opcodes.bytes(alloc, Order::Little)?;
+    assert!(rt; is_refused(alloc, &file, b"refused NotYet\n")?);
     Ok(())
 }
 
@@ -285,6 +289,137 @@ fn segments_make_up_the_frame(rt: HostRuntime) -> Result<(), Fail> {
     let twice = in_strips(alloc, 4, &[64, 64], &[64, 64])?.bytes(alloc, Order::Little)?;
     let bytes = ran(alloc, &twice, b"region 4 0 1 1 ppm\nregion 4 4 1 1 ppm\n")?.1;
     assert_eq!(rt; bytes.as_slice(), lower_half_twice());
+    Ok(())
+}
+
+/// A stream of samples of 16 bits, each 4660, in lines of `cols`, by a predictor.
+fn flat_stream(
+    alloc: Global,
+    count: usize,
+    cols: u32,
+    predictor: u8,
+) -> Result<Vec<u8>, AllocError>
+    requires count { (count ≡ 8) ⊎ (count ≡ 16) }
+    requires cols { (cols ≡ 2) ⊎ (cols ≡ 4) }
+    requires some { 1 ≤ predictor }
+    requires seven { predictor ≤ 7 }
+{
+    let samples = vec![in alloc; 4660; count]?;
+    let mut stream = Vec::new(alloc);
+    match encode(&samples, cols, 16, predictor, &mut stream) {
+        Ok(()) => Ok(stream),
+        Err(EncodeFault::Memory) => Err(AllocError),
+    }
+}
+
+/// The flat frame with a strip that is a lossless stream.
+fn with_stream(alloc: Global, stream: &[u8]) -> Result<TestFrame, AllocError> {
+    flat(alloc)?
+        .with(Field::shorts(alloc, 259, &[7])?)?
+        .with_strip(alloc, stream)
+}
+
+/// A stream of 4 lines, 2 samples a line and 2 components, which spells 4660 sixteen times: the code word 0 is for category
+/// 0, and 10 for category 15.
+fn stream_of_two_components() -> &'static [u8] {
+    b"\xFF\xD8\xFF\xC3\x00\x0E\x10\x00\x04\x00\x02\x02\x01\x11\x00\x02\x11\x00\
+      \xFF\xC4\x00\x15\x00\x01\x01\x00\x00\x00\x00\x00\x00\x00\x00\x00\x00\x00\x00\x00\x00\x00\x0F\
+      \xFF\xDA\x00\x0A\x02\x01\x00\x02\x00\x01\x00\x00\x89\x19\xC4\x8C\xC0\x00\xFF\xD9"
+}
+
+/// The flat frame in two lossless tiles of 4 rows and 2 columns, the second of which may be damaged.
+fn in_two_streams(alloc: Global, damaged: bool) -> Result<TestFrame, AllocError> {
+    let stream = flat_stream(alloc, 8, 2, 1)?;
+    let mut both = stream.as_slice().to_vec(alloc)?;
+    both.push(if damaged { 0 } else { 0xFF })?;
+    both.extend_from_slice(&stream[1..])?;
+    let length = stream.len() as u32;
+    with_stream(alloc, &both)?
+        .with(Field::shorts(alloc, 322, &[2])?)?
+        .with(Field::shorts(alloc, 323, &[4])?)?
+        .with(Field::places(alloc, 324, &[Place::Data(0), Place::Data(length)])?)?
+        .with(Field::longs(alloc, 325, &[length, length])?)
+}
+
+#[test]
+fn lossless_frames(rt: HostRuntime) -> Result<(), Fail> {
+    let alloc = rt.alloc();
+    for predictor in 1..8 {
+        let stream = flat_stream(alloc, 16, 4, predictor)?;
+        assert!(rt; is_flat(alloc, with_stream(alloc, &stream)?, Order::Little)?, "{predictor}");
+    }
+    let frame = with_stream(alloc, stream_of_two_components())?;
+    assert!(rt; is_flat(alloc, frame, Order::Big)?);
+    assert!(rt; is_flat(alloc, in_two_streams(alloc, false)?, Order::Little)?);
+    let damaged = in_two_streams(alloc, true)?.bytes(alloc, Order::Little)?;
+    assert!(rt; is_refused(alloc, &damaged, b"refused Segment 1 Jpeg NoStart\n")?);
+    Ok(())
+}
+
+/// Whether the first pixel of a flat frame of 4 by 4 samples of 16 bits, with one or two entries more, is this one.
+fn develops(
+    alloc: Global,
+    sample: u16,
+    field: Field,
+    other: Option<Field>,
+    pixel: &[u8],
+) -> Result<bool, AllocError> {
+    let mut frame = plain(alloc, 4, 4, &[sample; 16])?.with(field)?;
+    if let Some(other) = other {
+        frame = frame.with(other)?;
+    }
+    let file = frame.bytes(alloc, Order::Little)?;
+    let (status, bytes) = ran(alloc, &file, b"region 0 0 1 1 ppm\n")?;
+    Ok(status == Status::Done && bytes.as_slice().ends_with(pixel))
+}
+
+/// The identity, as fractions.
+fn identity() -> [(i32, i32); 9] {
+    [
+        (1, 1),
+        (0, 1),
+        (0, 1),
+        (0, 1),
+        (1, 1),
+        (0, 1),
+        (0, 1),
+        (0, 1),
+        (1, 1),
+    ]
+}
+
+#[test]
+fn stages_are_those_of_the_frame(rt: HostRuntime) -> Result<(), Fail> {
+    let alloc = rt.alloc();
+    let white = Field::shorts(alloc, 50717, &[4095])?;
+    let black = Field::shorts(alloc, 50714, &[256])?;
+    let linear = develops(alloc, 2048, white, Some(black), b"\x77\x7F\x77\x7F\x77\x7F")?;
+    assert!(rt; linear);
+    let neutral = Field::rationals(alloc, 50728, &[(1, 2), (1, 1), (2, 3)])?;
+    assert!(rt; develops(alloc, 30_000, neutral, None, b"\xEA\x60\x75\x30\xAF\xC8")?);
+    let forward = Field::signed_rationals(alloc, 50964, &identity())?;
+    assert!(rt; develops(alloc, 1000, forward, None, b"\x04\x02\x03\xCB\x04\xE0")?);
+    Ok(())
+}
+
+/// The reply to the region of the bright red in its row.
+fn bright_row() -> &'static [u8] {
+    b"image 31\nP6\n3 1\n65535\n\x06\x40\x03\x20\x04\xB0\x03\x20\x00\x00\x00\x00\x00\x00\x00\x00\x00\x00"
+}
+
+#[test]
+fn areas_are_those_of_the_frame(rt: HostRuntime) -> Result<(), Fail> {
+    let alloc = rt.alloc();
+    let active = bright_red(alloc)?
+        .with(Field::shorts(alloc, 50829, &[1, 0, 8, 8])?)?
+        .with(Field::bytes(alloc, 33422, &[1, 2, 0, 1])?)?;
+    let file = active.bytes(alloc, Order::Little)?;
+    assert_eq!(rt; ran(alloc, &file, b"region 4 3 3 1 ppm\n")?.1.as_slice(), bright_row());
+    let cropped = bright_red(alloc)?
+        .with(Field::shorts(alloc, 50719, &[3, 2])?)?
+        .with(Field::shorts(alloc, 50720, &[4, 4])?)?;
+    let file = cropped.bytes(alloc, Order::Little)?;
+    assert_eq!(rt; ran(alloc, &file, b"region 1 2 3 1 ppm\n")?.1.as_slice(), bright_row());
     Ok(())
 }
 

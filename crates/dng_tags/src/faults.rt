@@ -63,7 +63,7 @@ pub enum FrameFault {
     TooLong,
     /// The samples aren't unsigned whole numbers.
     Format { v: u32 },
-    /// The frame isn't of a form that is developed today.
+    /// It has an opcode list, and such frames aren't developed yet.
     NotYet,
     /// There was no memory.
     Memory,

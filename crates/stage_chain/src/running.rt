@@ -1,6 +1,6 @@
 //! Stages that run one after the other.
 
-ghost use Rattle.std.specs.Prelude.{◌≡◌, ◌+◌, ◌≤◌, length, IfOk};
+ghost use Rattle.std.specs.Prelude.{◌≡◌, ◌+◌, ◌≤◌, length, IfOk, OnOk};
 ghost use Rattle.plane_view.specs.Shapes.{IsShape};
 ghost use Rattle.stage_core.specs.Stages.{shape_of};
 ghost use Rattle.stage_chain.specs.Chains.{TakeInTurn, plane_with, sample_count, whole_of};
@@ -43,6 +43,7 @@ fn make<S: Stage, L: Ledger>(
     requires { S.takes stage.now (shape_of plane.now) }
     ensures made { IfOk result (λ made. made ≡ S.apply stage.now plane.now) }
     ensures shape { IfOk result (λ made. shape_of made ≡ S.shaped stage.now (shape_of plane.now)) }
+    ensures work { OnOk result (work.new ≡ work.old + 1) }
 {
     let whole = plane.shape();
     let Some(shape) = stage.shape(whole) else {
@@ -69,7 +70,8 @@ pub fn run_in_turn<S: Stage, L: Ledger>(
     work: &mut Steps<L>,
 ) -> Result<WholePlane, AllocError>
     requires { TakeInTurn S.takes S.shaped stages.now (shape_of plane) }
-    ensures { IfOk result (λ made. made ≡ whole_of S.apply stages.now plane) }
+    ensures made { IfOk result (λ made. made ≡ whole_of S.apply stages.now plane) }
+    ensures work { OnOk result (work.new ≡ work.old + length stages.now) }
 {
     let mut plane = plane;
     let mut spare = spare;

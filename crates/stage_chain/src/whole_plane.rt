@@ -1,6 +1,6 @@
 //! Whole planes, which keep their memory for others.
 
-ghost use Rattle.std.specs.Prelude.{◌≡◌, ◌+◌, ◌-◌, ◌*◌, ◌≤◌, ◌<◌, length, take, drop, IfOk};
+ghost use Rattle.std.specs.Prelude.{◌≡◌, ◌+◌, ◌-◌, ◌*◌, ◌≤◌, ◌<◌, length, take, drop, IfOk, OnErr, OnOk};
 ghost use Rattle.plane_view.specs.Plane.{IsWhole};
 ghost use Rattle.plane_view.specs.Shapes.{IsShape};
 ghost use Rattle.stage_core.specs.Planes.{IsPlane};
@@ -40,8 +40,14 @@ impl WholePlane {
     /// # Errors
     ///
     /// Where there is no memory; then nothing was fetched.
-    pub fn fetch<B: Base, L: Ledger>(alloc: Global, base: &mut B, work: &mut Steps<L>) -> Result<WholePlane, AllocError>
-        ensures { IfOk result (λ plane. plane ≡ B.plane base.old) }
+    pub fn fetch<B: Base, L: Ledger>(
+        alloc: Global,
+        base: &mut B,
+        work: &mut Steps<L>,
+    ) -> Result<WholePlane, AllocError>
+        ensures plane { IfOk result (λ plane. plane ≡ B.plane base.old) }
+        ensures fetched { OnOk result (work.new ≡ work.old + length (B.cells_of base.old)) }
+        ensures none { OnErr result (work.new ≡ work.old) }
     {
         let shape = base.shape();
         let mut samples = vec![in alloc; 0u16; sample_count(shape)]?;
@@ -66,6 +72,8 @@ impl WholePlane {
         ensures samples { result.now ≡ take ((right - left) * self.now.planes)
             (drop ((row * self.now.cols + left) * self.now.planes) self.now.samples) }
         ensures length { length result.now ≡ (right - left) * self.now.planes }
+        ensures plane { IsPlane self.now (shape_of self.now) }
+        ensures limits { IsShape (shape_of self.now) }
     {
         let Shape { cols, planes, .. } = self.shape;
         let first = (row as usize * cols as usize + left as usize) * planes as usize;

@@ -1,7 +1,4 @@
-use Rattle.std.proofs.Common.{◌≡◌, ℕ, ◌-◌, ◌++◌, List}
-use Rattle.plane_view.specs.Plane.{crop}
-use Rattle.image_out.specs.Image.{pixels_of}
-use Rattle.developer.specs.Replies.{image, image_reply}
+use Rattle.std.proofs.Common.{ℕ}
 use Rattle.developer.proofs.Images.{few_reply, reply_pieces}
 use Rattle.developer.proofs.Written.{writes_same}
 use Rattle.developer.proofs.answer.write_image.Goals as goal

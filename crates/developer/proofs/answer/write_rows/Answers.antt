@@ -1,9 +1,8 @@
-use Rattle.std.proofs.Common.{◌≡◌, ℕ, ◌+◌, ◌<◌, ◌≤◌, List, [], ◌++◌, length, Ok, Err, inl, inr, refl, sym, ◌∙◌, ap, subst, arith, Bool, false}
+use Rattle.std.proofs.Common.{◌≡◌, ℕ, ◌<◌, ◌≤◌, List, [], length, inl, inr, sym, ◌∙◌, arith, Bool, false}
 use Rattle.std.specs.Prelude.{IsTrue}
 use Rattle.std.proofs.lemmas.Bool.{cases_lt, false≢true}
 use Rattle.std.proofs.lemmas.Result.{err_from_is_err_and}
-use Rattle.developer.specs.Writes.{Writes}
-use Rattle.developer.proofs.Pieces.{InPieces, pieces_none, pieces_few, pieces_held, pieces_sent, pieces_stop, pieces_end}
+use Rattle.developer.proofs.Pieces.{pieces_none, pieces_few, pieces_held, pieces_sent, pieces_stop, pieces_end}
 use Rattle.developer.proofs.answer.write_rows.Goals.{then-is_full+in_ok-written, else-is_full}
 use Rattle.developer.proofs.answer.write_rows.Goals as goal
 

@@ -1,4 +1,4 @@
-use Rattle.std.proofs.Common.{◌≡◌, ℕ, List, [], refl, sym, subst, arith, map, string_bytes, ap}
+use Rattle.std.proofs.Common.{◌≡◌, ℕ, List, [], refl, sym, subst, arith, map, string_bytes}
 use Rattle.developer.specs.Run.{Call, Ends, Promises, Stays}
 use Rattle.developer.specs.declared.status.Status.{Status}
 use Rattle.developer.proofs.Endings.{complete}

@@ -1,6 +1,6 @@
 use Rattle.std.proofs.lemmas.Result.{err_from_is_err_and}
 use Rattle.developer.specs.Replies.{answer_of, first_state}
-use Rattle.developer.proofs.Answering.{answers_with_rest, so_far_more, so_far_stops}
+use Rattle.developer.proofs.Answering.{so_far_more, so_far_stops}
 use Rattle.developer.proofs.script.answer_complete_lines.Goals as goal
 
 pub returns-in_err-written-clause-writes : goal.returns-in_err-written-clause-writes

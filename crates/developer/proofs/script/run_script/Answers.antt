@@ -1,9 +1,8 @@
-use Rattle.std.proofs.Common.{◌≡◌, ℕ, ◌+◌, ◌<◌, ◌≤◌, inr, List, [], length, take, Some, Ok, Err, refl, sym, ◌∙◌, ap, subst, arith}
-use Rattle.std.specs.Prelude.{IfSome}
+use Rattle.std.proofs.Common.{◌≡◌, ℕ, ◌+◌, ◌<◌, ◌≤◌, inr, List, [], length, take, Ok, Err, refl, ◌∙◌, ap, subst, arith}
 use Rattle.std.proofs.lemmas.Result.{err_from_is_err_and}
 use Rattle.raw_io.specs.Outside.{Takes}
 use Rattle.dev_settings.specs.Lines.{all_lines, lines_of}
-use Rattle.developer.specs.Run.{Call, Ends, status_after, status_of}
+use Rattle.developer.specs.Run.{Call}
 use Rattle.developer.specs.Transcript.{answers_of, max_script}
 use Rattle.developer.specs.Writes.{Writes}
 use Rattle.developer.specs.declared.script.Answered.{Answered}

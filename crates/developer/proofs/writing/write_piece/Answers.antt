@@ -1,4 +1,4 @@
-use Rattle.std.proofs.Common.{ℕ, ◌≡◌, List, Err, ap, subst}
+use Rattle.std.proofs.Common.{ℕ, List, Err, subst}
 use Rattle.developer.specs.Writes.{Writes}
 use Rattle.developer.proofs.Written.{writes_then_stops}
 use Rattle.developer.proofs.writing.write_piece.Goals as goal

@@ -21,4 +21,5 @@ loop-stage-preserved g c =
     record {
       takes = subst (λ (t : Shape). TakeInTurn g.S.Stage.takes g.S.Stage.shaped later t) shape takes.1;
       same = ap (whole_of g.S.Stage.apply later) made ∙ same;
+      work = omega (arith, l.invariant.work, c.in_ok-made.ensures.work);
     }

@@ -1,24 +1,36 @@
-use Rattle.std.proofs.Common.{◌≡◌, ℕ, ◌*◌, List, length, sym, ◌∙◌, ap, arith}
+use Rattle.std.proofs.Common.{◌≡◌, ◌∙◌, List, sym, ap, ap₂, subst}
+use Rattle.plane_view.specs.declared.Shape.{Shape}
 use Rattle.plane_view.specs.Plane.{Plane}
+use Rattle.stage_core.specs.Stages.{shape_of}
+use Rattle.stage_chain.specs.Chains.{TakeInTurn, whole_of}
 use Rattle.frame_segments.specs.Opened.{Opened}
 use Rattle.dng_tags.specs.Raw.{raw}
-use Rattle.developer.proofs.Samples.{developed, length-raw, written_whole}
+use Rattle.dev_stages.specs.Members.{apply_of, shaped_of, takes_of}
+use Rattle.dev_stages.specs.declared.stage.DevStage.{DevStage}
+use Rattle.developer.specs.Develop.{develop, standard_stages}
+use Rattle.developer.proofs.Development.{shape_of_raw, three_planes}
 use Rattle.developer.proofs.develop.Developed.new.Goals as goal
 
-pub fetch_plane-requires-clause-whole : goal.fetch_plane-requires-clause-whole
-fetch_plane-requires-clause-whole c =
-    let plane : c.in_ok-segments.segments.plane ≡ raw c.args.bytes.now c.args.frame.now = ap (λ (o : Opened). o.plane) c.in_ok-segments.ensures.opened in
-    let pixels : length c.deref_mut.result.now ≡ c.args.frame.now.shape.rows * c.args.frame.now.shape.cols = omega (arith, c.deref_mut.ensures.len, c.in-Ok.ensures.len) in
-    pixels ∙ (sym (length-raw c.args.bytes.now c.args.frame.now) ∙ ap (λ (P : Plane). length P.samples) (sym plane))
+pub run_stages-requires-clause-takes : goal.run_stages-requires-clause-takes
+run_stages-requires-clause-takes c =
+    let frame = c.args.frame.now in
+    let plane : c.in_ok-segments.segments.plane ≡ raw c.args.bytes.now frame = ap (λ (o : Opened). o.plane) c.in_ok-segments.ensures.opened in
+    let shape : frame.shape ≡ shape_of c.in_ok-segments.segments.plane = sym (ap shape_of plane ∙ shape_of_raw c.args.bytes.now frame c.requires.frame) in
+    let items : c.in-Ok.stages.items ≡ c.deref.result.now = sym c.deref.ensures.value in
+    subst (λ (t : Shape). TakeInTurn takes_of shaped_of c.deref.result.now t) shape
+    (subst (λ (stages : List DevStage). TakeInTurn takes_of shaped_of stages frame.shape) items c.in-Ok.ensures.chain)
 
-pub returns-clause-developed : goal.returns-clause-developed
-returns-clause-developed c =
-    let plane : c.in_ok-segments.segments.plane ≡ raw c.args.bytes.now c.args.frame.now = ap (λ (o : Opened). o.plane) c.in_ok-segments.ensures.opened in
-    let pixels : c.in-Ok.raw.len ≡ length c.fetch_plane.new.samples = omega (arith, c.in-Ok.ensures.len) in
-    let count : c.in-Ok-vec.samples.len ≡ length c.whole.new.out = omega (arith, c.in-Ok-vec.ensures.len) in
-    let view : List ℕ → Plane = λ samples. record { rows = c.args.frame.now.shape.rows; cols = c.args.frame.now.shape.cols; planes = 3; samples = samples } in
-    let fetched : c.deref.result.now ≡ (raw c.args.bytes.now c.args.frame.now).samples =
-    c.deref.ensures.value
-    ∙ (written_whole c.in-Ok.raw.len c.fetch_plane.new.samples c.in-Ok.raw.items pixels ∙ (c.fetch_plane.ensures ∙ ap (λ (P : Plane). P.samples) plane)) in
-    ap view (written_whole c.in-Ok-vec.samples.len c.whole.new.out c.in-Ok-vec.samples.items count)
-    ∙ developed c.args.bytes.now c.args.frame.now c.deref.result.now c.whole.new.out fetched c.whole.ensures
+pub invariant_of-result : goal.invariant_of-result
+invariant_of-result c =
+    let frame = c.args.frame.now in
+    let stages : c.deref.result.now ≡ standard_stages frame = c.deref.ensures.value ∙ c.in-Ok.ensures.stages in
+    ap (λ (P : Plane). P.planes) c.in-Ok-run_stages.ensures
+    ∙ (ap (λ (xs : List DevStage). (whole_of apply_of xs c.in_ok-segments.segments.plane).planes) stages ∙ three_planes frame c.in_ok-segments.segments.plane)
+
+pub returns-in-Ok-run_stages-clause-developed : goal.returns-in-Ok-run_stages-clause-developed
+unfolding develop
+returns-in-Ok-run_stages-clause-developed c =
+    let frame = c.args.frame.now in
+    let plane : c.in_ok-segments.segments.plane ≡ raw c.args.bytes.now frame = ap (λ (o : Opened). o.plane) c.in_ok-segments.ensures.opened in
+    let stages : c.deref.result.now ≡ standard_stages frame = c.deref.ensures.value ∙ c.in-Ok.ensures.stages in
+    c.in-Ok-run_stages.ensures ∙ ap₂ (λ (xs : List DevStage) (P : Plane). whole_of apply_of xs P) stages plane

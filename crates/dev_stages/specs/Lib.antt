@@ -1,0 +1,4 @@
+pub mod Members
+pub mod Laws
+pub mod Plannable
+pub mod Plans
