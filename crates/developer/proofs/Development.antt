@@ -1,5 +1,5 @@
 -- The raw plane of a frame, and what is developed of it.
-use Rattle.std.proofs.Common.{◌≡◌, ℕ, List, Ok, refl, sym}
+use Rattle.std.proofs.Common.{◌≡◌, ℕ, List, refl, sym}
 use Rattle.plane_view.specs.Plane.{Plane}
 use Rattle.stage_core.specs.Stages.{shape_of}
 use Rattle.stage_chain.specs.Chains.{whole_of}
@@ -7,10 +7,7 @@ use Rattle.dng_tags.specs.Facts.{IsFrame}
 use Rattle.dng_tags.specs.Raw.{raw, segments_plane}
 use Rattle.dng_tags.specs.declared.record.Frame.{Frame}
 use Rattle.dev_stages.specs.Members.{apply_of}
-use Rattle.dev_stages.specs.Plannable.{IsPlannable}
-use Rattle.dev_settings.specs.Settings.{standard_settings}
-use Rattle.dev_stages.specs.Plans.{auto_matrix, planned, stages_with}
-use Rattle.dev_stages.proofs.PlanLemmas.{planned_so}
+use Rattle.dev_stages.specs.Plans.{stages_with}
 use Rattle.developer.specs.Develop.{standard_stages}
 
 -- the shape of a raw plane

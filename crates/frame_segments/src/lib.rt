@@ -1,6 +1,5 @@
-//! The strips or tiles of a frame as a plane that is fetched cell by cell: a segment is a cell. All are decoded once when the
-//! frame is opened, and one by one when they are
-//! fetched.
+//! The strips or tiles of a frame as a plane that is fetched cell by cell: a segment is a cell. Opening a frame decodes each
+//! segment once, and fetching a cell decodes it again.
 #![tactic(auto)]
 
 mod decoding;
