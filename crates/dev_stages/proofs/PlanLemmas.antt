@@ -49,10 +49,16 @@ pub takes_all : (frame : Frame) (settings : Settings) (matrix : List ℤ) → Is
 unfolding stages_with
 takes_all frame settings matrix is = (
   record { some = is.active_some; inside = is.active },
-  (record { planes = is.shape.planes; rows = refl; cols = refl },
-  (record { planes = is.shape.planes; rows = is.rows; cols = is.cols },
-  (record { some = is.crop_some; inside = is.crop },
-  (refl, (refl, (refl, tt)))))),
+  (
+    record { planes = is.shape.planes; rows = refl; cols = refl },
+    (
+      record { planes = is.shape.planes; rows = is.rows; cols = is.cols },
+      (
+        record { some = is.crop_some; inside = is.crop },
+        (refl, (refl, (refl, tt))),
+      ),
+    ),
+  ),
 )
 
 -- the order of integers, as a test

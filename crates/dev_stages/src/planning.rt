@@ -79,11 +79,7 @@ fn chosen_matrix(colour: &Colour, choice: &MatrixChoice) -> Option<Matrix>
 ///
 /// `Matrix` exactly where the settings name a forward matrix that the frame hasn't; else `Levels` exactly where the white
 /// level isn't above the greatest black level under them; `Memory` where there was none.
-pub fn plan(
-    alloc: Global,
-    frame: &Frame,
-    settings: &Settings,
-) -> Result<Vec<DevStage>, PlanFault>
+pub fn plan(alloc: Global, frame: &Frame, settings: &Settings) -> Result<Vec<DevStage>, PlanFault>
     requires frame { IsPlannable frame.now }
     requires settings { SettingsInRange settings.now }
     ensures stages { IfOk result (λ stages. planned frame.now settings.now ≡ Ok stages.items) }

@@ -56,8 +56,13 @@ fn has_kinds(alloc: Global, change: &Change, names: &[&str]) -> Result<bool, All
     requires { ChangeInRange change.now }
 {
     match planned(alloc, change)? {
-        Ok(stages) => Ok(stages.len() == names.len()
-            && stages.iter().zip(names).all(|(stage, want)| name(stage) == *want)),
+        Ok(stages) => Ok(
+            stages.len() == names.len()
+                && stages
+                    .iter()
+                    .zip(names)
+                    .all(|(stage, want)| name(stage) == *want),
+        ),
         Err(_) => Ok(false),
     }
 }

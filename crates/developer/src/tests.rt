@@ -293,12 +293,7 @@ fn segments_make_up_the_frame(rt: HostRuntime) -> Result<(), Fail> {
 }
 
 /// A stream of samples of 16 bits, each 4660, in lines of `cols`, by a predictor.
-fn flat_stream(
-    alloc: Global,
-    count: usize,
-    cols: u32,
-    predictor: u8,
-) -> Result<Vec<u8>, AllocError>
+fn flat_stream(alloc: Global, count: usize, cols: u32, predictor: u8) -> Result<Vec<u8>, AllocError>
     requires count { (count ≡ 8) ⊎ (count ≡ 16) }
     requires cols { (cols ≡ 2) ⊎ (cols ≡ 4) }
     requires some { 1 ≤ predictor }
@@ -346,7 +341,10 @@ fn lossless_frames(rt: HostRuntime) -> Result<(), Fail> {
     let alloc = rt.alloc();
     for predictor in 1..8 {
         let stream = flat_stream(alloc, 16, 4, predictor)?;
-        assert!(rt; is_flat(alloc, with_stream(alloc, &stream)?, Order::Little)?, "{predictor}");
+        assert!(rt;
+            is_flat(alloc, with_stream(alloc, &stream)?, Order::Little)?,
+            "{predictor}"
+        );
     }
     let frame = with_stream(alloc, stream_of_two_components())?;
     assert!(rt; is_flat(alloc, frame, Order::Big)?);
@@ -414,12 +412,18 @@ fn areas_are_those_of_the_frame(rt: HostRuntime) -> Result<(), Fail> {
         .with(Field::shorts(alloc, 50829, &[1, 0, 8, 8])?)?
         .with(Field::bytes(alloc, 33422, &[1, 2, 0, 1])?)?;
     let file = active.bytes(alloc, Order::Little)?;
-    assert_eq!(rt; ran(alloc, &file, b"region 4 3 3 1 ppm\n")?.1.as_slice(), bright_row());
+    assert_eq!(rt;
+        ran(alloc, &file, b"region 4 3 3 1 ppm\n")?.1.as_slice(),
+        bright_row()
+    );
     let cropped = bright_red(alloc)?
         .with(Field::shorts(alloc, 50719, &[3, 2])?)?
         .with(Field::shorts(alloc, 50720, &[4, 4])?)?;
     let file = cropped.bytes(alloc, Order::Little)?;
-    assert_eq!(rt; ran(alloc, &file, b"region 1 2 3 1 ppm\n")?.1.as_slice(), bright_row());
+    assert_eq!(rt;
+        ran(alloc, &file, b"region 1 2 3 1 ppm\n")?.1.as_slice(),
+        bright_row()
+    );
     Ok(())
 }
 

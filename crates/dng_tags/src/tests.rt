@@ -1,8 +1,8 @@
 // Flat frames of 4 by 4 with changed entries: what is refused, and what the record has. The expected numbers were worked
 // out by hand from the rules of each tag.
 use super::*;
-use ljpeg_predict::JpegFault;
 use lists::Items;
+use ljpeg_predict::JpegFault;
 use std::alloc::{AllocError, Global};
 use std::test::Fail;
 use test_frames::{TestFrame, bright_red, flat};
@@ -411,12 +411,7 @@ fn cuts_images(rt: HostRuntime) -> Result<(), Fail> {
 }
 
 // Whether a frame is read, and has as many rows and columns as `side`.
-fn has_side(
-    alloc: Global,
-    frame: TestFrame,
-    order: Order,
-    side: u32,
-) -> Result<bool, AllocError> {
+fn has_side(alloc: Global, frame: TestFrame, order: Order, side: u32) -> Result<bool, AllocError> {
     let bytes = frame.bytes(alloc, order)?;
     match read(alloc, &bytes) {
         Ok(frame) => Ok(frame.shape.rows == side && frame.shape.cols == side),
@@ -462,5 +457,13 @@ fn tells_faults(rt: HostRuntime) {
     let why = SegmentFault::Jpeg(JpegFault::NoStart);
     assert!(rt; says(F::Segment { segment: 7, why }, b"Segment 7 Jpeg NoStart"));
     let why = SegmentFault::Jpeg(JpegFault::NotLossless { marker: 192 });
-    assert!(rt; says(F::Segment { segment: 65535, why }, b"Segment 65535 Jpeg NotLossless 192"));
+    assert!(rt;
+        says(
+            F::Segment {
+                segment: 65535,
+                why
+            },
+            b"Segment 65535 Jpeg NotLossless 192"
+        )
+    );
 }

@@ -55,7 +55,14 @@ fn unpack_samples(
     requires long { length out.old ≡ coded_count segment.now }
     ensures { packed_samples bytes.now order depth segment.now ≡ told result out.new }
 {
-    match unpack(bytes, depth, order, segment.full_rows, segment.full_cols, out) {
+    match unpack(
+        bytes,
+        depth,
+        order,
+        segment.full_rows,
+        segment.full_cols,
+        out,
+    ) {
         Ok(()) => Ok(()),
         Err(short) => Err(SegmentFault::Short(short)),
     }
@@ -84,7 +91,9 @@ impl<'a> Coded<'a> {
         let bytes = &self.bytes[start..start + segment.length as usize];
         let samples = &mut buffer[..coded_count(segment)];
         match self.coding {
-            Coding::Packed { order, depth } => unpack_samples(bytes, order, depth, segment, samples),
+            Coding::Packed { order, depth } => unpack_samples(
+                bytes, order, depth, segment, samples,
+            ),
             Coding::LosslessJpeg => decode_stream(bytes, samples),
         }
     }

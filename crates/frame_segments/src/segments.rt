@@ -105,8 +105,7 @@ impl<'a> Base for Segments<'a> {
 
     fn fetch<L: Ledger>(&mut self, k: u32, out: &mut TileMut<'_>, work: &mut Steps<L>) {
         let segment = self.segments.as_slice()[k as usize];
-        self.coded
-            .bring(&segment, self.held == k, &mut self.buffer);
+        self.coded.bring(&segment, self.held == k, &mut self.buffer);
         self.held = k;
         copy_pixels(&segment, &self.buffer, out);
         self.fetched = self.fetched.saturating_add(1);

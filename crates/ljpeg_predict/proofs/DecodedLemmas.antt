@@ -195,8 +195,8 @@ module _ (scan : Scan) (free : (place : ℕ) → IsPrefixFree (table_at scan pla
   decoded_is : (samples : List ℕ) → IsDecoded scan want samples → of_scan ≡ Ok samples
   decoded_is samples d =
       ap (samples_of scan) (
-        ap₂ (differences_in (table_at scan)) (sym d.enough) d.begins.parts
-        ∙ spelled_in d.differences (table_at scan) free d.begins.taken d.rest d.begins.spelled
+      ap₂ (differences_in (table_at scan)) (sym d.enough) d.begins.parts
+      ∙ spelled_in d.differences (table_at scan) free d.begins.taken d.rest d.begins.spelled
       )
       ∙ ap (λ xs. Ok xs) (one_list_of_samples scan width d.differences (rebuilt_behind scan [] d.differences) samples (rebuilt_is scan width d.differences) d.rebuilt)
 
