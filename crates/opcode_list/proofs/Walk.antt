@@ -4,7 +4,7 @@ use Rattle.std.proofs.Common.{append_assoc, append-nil, arith, drop, length, len
 use Rattle.std.proofs.lemmas.List.Elements.{All-append}
 use Rattle.opcode_list.specs.Cuts.{RawOpcode, cut_opcodes, first_opcode}
 use Rattle.opcode_list.specs.Lists.{Answers, and_then, opcode_of, opcodes_from}
-use Rattle.opcode_list.specs.Params.{CanRun}
+use Rattle.opcode_list.specs.Params.{CanRunIn}
 use Rattle.opcode_list.specs.declared.opcode.Opcode.{Opcode}
 use Rattle.opcode_list.specs.declared.opcode.OpcodeFault.{OpcodeFault}
 use Rattle.opcode_list.specs.declared.opcode.OpcodeFault.TheVariants.{BadParams, Memory, Newer, NotHere}
@@ -22,7 +22,7 @@ told_from list count index bytes = opcodes_from list index (cut_opcodes (count -
 -- the opcodes of a list were read up to an index, and the rest of the bytes is left
 pub record HasRead (list count : ℕ) (bytes : List ℕ) (index : ℕ) (rest : List ℕ) (opcodes : List Opcode) : Type 0 where
   pub walk : after opcodes (told_from list count index rest) ≡ opcodes_from list 0 (cut_opcodes count bytes)
-  pub can_run : All CanRun opcodes
+  pub can_run : All (CanRunIn list) opcodes
   pub counted : length opcodes ≡ index
 
 -- one more opcode before those of an answer
@@ -108,11 +108,11 @@ begins list count bytes = record {
 pub goes_on :
     {list count : ℕ} {bytes : List ℕ} {index : ℕ} {rest : List ℕ} {opcodes : List Opcode} {raw : RawOpcode} {opcode : Opcode} →
     HasRead list count bytes index rest opcodes → index < count → first_opcode rest ≡ Some raw →
-    opcode_of list index raw ≡ Ok opcode → CanRun opcode →
+    opcode_of list index raw ≡ Ok opcode → CanRunIn list opcode →
     HasRead list count bytes (index + 1) (drop (16 + length raw.params) rest) (opcodes ++ opcode ∷ [])
 goes_on {list} {count} {bytes} {index} {rest} {opcodes} {raw} {opcode} had below cut read runs = record {
   walk = sym (told_from-ok list count index rest opcodes raw opcode below cut read) ∙ had.walk;
-  can_run = All-append CanRun opcodes (opcode ∷ []) had.can_run (alone CanRun opcode runs);
+  can_run = All-append (CanRunIn list) opcodes (opcode ∷ []) had.can_run (alone (CanRunIn list) opcode runs);
   counted = simp length-append (omega (arith, had.counted));
 }
 

@@ -3,3 +3,4 @@ pub mod Faults
 pub mod Lists
 pub mod Params
 pub mod Seen
+pub mod Trims

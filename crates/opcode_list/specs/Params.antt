@@ -1,7 +1,8 @@
 -- The parameters of the opcodes that are run (DNG 1.6, "Opcode List Processing"). None where they can't be run.
-use Rattle.std.specs.Prelude.{ℕ, ◌≤◌, ◌<◌, ◌+◌, ◌*◌, ◌==◌, ◌&&◌, nat_lt, nat_le, if◌then◌else◌, List, Option, None, Some, length, map}
+use Rattle.std.specs.Prelude.{ℕ, ◌≤◌, ◌+◌, ◌*◌, ◌==◌, ◌&&◌, nat_lt, nat_le, if◌then◌else◌, List, Option, None, Some, length, map}
 use Rattle.std.specs.List.{range_with_len}
 use Rattle.plane_view.specs.declared.Rect.{Rect}
+use Rattle.plane_view.specs.Rectangles.{IsNonEmpty}
 use Rattle.opcode_list.specs.declared.opcode.Opcode.{Opcode}
 use Rattle.opcode_list.specs.declared.opcode.Opcode.TheVariants.{FixConstant, FixList, Map, Skipped, Trim}
 use Rattle.opcode_list.specs.Cuts.{long_at, short_at}
@@ -80,12 +81,24 @@ opcode_with id params =
     else (if id == 6 then trim_of params
     else map_of params))
 
--- what holds of each opcode that is read: one that is run has a phase of 0 to 3, a rectangle that isn't empty, pitches
--- of at least 1, a table of 1 to 65,536 entries, at most 65,536 points and 1,024 rectangles
+-- what holds of each opcode that is read: one that is run has a phase of 0 to 3, a trim that isn't empty, pitches of at
+-- least 1, a table of 1 to 65,536 entries, at most 65,536 points and 1,024 rectangles. Other rectangles may be empty
 abbrev pub CanRun : Opcode → Type 0
 CanRun (FixConstant constant phase) = phase ≤ 3
 CanRun (FixList phase points rects) = (phase ≤ 3) × (length points ≤ 65536) × (length rects ≤ 1024)
-CanRun (Trim rect) = (rect.top < rect.bottom) × (rect.left < rect.right)
+CanRun (Trim rect) = IsNonEmpty rect
 CanRun (Map rect plane planes row_pitch col_pitch table) =
     (1 ≤ row_pitch) × (1 ≤ col_pitch) × (1 ≤ length table) × (length table ≤ 65536)
 CanRun (Skipped id) = Unit {0}
+
+-- bad pixels are mended in lists 1 and 2 alone
+abbrev pub MayStandIn : ℕ → Opcode → Type 0
+MayStandIn list (FixConstant constant phase) = list ≤ 2
+MayStandIn list (FixList phase points rects) = list ≤ 2
+MayStandIn list (Trim rect) = Unit {0}
+MayStandIn list (Map rect plane planes row_pitch col_pitch table) = Unit {0}
+MayStandIn list (Skipped id) = Unit {0}
+
+-- what holds of each opcode of a list
+abbrev pub CanRunIn : ℕ → Opcode → Type 0
+CanRunIn list opcode = CanRun opcode × MayStandIn list opcode

@@ -7,9 +7,11 @@
 mod list;
 mod opcode;
 mod params;
+mod trims;
 
 pub use list::read_list;
 pub use opcode::{Opcode, OpcodeFault};
+pub use trims::trimmed;
 
 #[cfg(test)]
 mod tests;

@@ -1,10 +1,10 @@
 //! An opcode list: its opcodes one after the other, or the first refusal.
 
-ghost use Rattle.std.specs.Prelude.{◌≡◌, ◌+◌, ◌≤◌, All, IfOk, IfSome, drop, length};
+ghost use Rattle.std.specs.Prelude.{◌≡◌, ◌+◌, ◌≤◌, All, IfOk, IfSome, None, drop, length};
 ghost use Rattle.std.specs.Option.{option_map};
 ghost use Rattle.opcode_list.specs.Cuts.{cut_opcodes, first_opcode};
 ghost use Rattle.opcode_list.specs.Lists.{Answers, barred_by, is_optional, opcode_of, opcodes_from, opcodes_of};
-ghost use Rattle.opcode_list.specs.Params.{CanRun};
+ghost use Rattle.opcode_list.specs.Params.{CanRunIn};
 ghost use Rattle.opcode_list.specs.Seen.{raw_seen};
 
 use crate::opcode::{Opcode, OpcodeFault};
@@ -66,7 +66,8 @@ impl RawOpcode<'_> {
     /// Why it can't be run, whatever its parameters.
     #[tactic(auto, unfolding(crate::specs::Lists::barred_by))]
     fn barred_by(&self, list: u8, index: u32) -> Option<OpcodeFault>
-        ensures { result ≡ barred_by list index (raw_seen self.now) }
+        ensures fault { result ≡ barred_by list index (raw_seen self.now) }
+        ensures mends { list ≤ 3 → result ≡ None → self.now.id ≤ 5 → list ≤ 2 }
     {
         let id = self.id;
         if self.major > 1 || self.major == 1 && self.minor > 6 {
@@ -81,19 +82,20 @@ impl RawOpcode<'_> {
     }
 
     /// The opcode, by its index in the list.
-    #[tactic(auto, unfolding(crate::specs::Lists::opcode_of))]
+    #[tactic(auto, using(crate::proofs::TrimLemmas::may_stand), unfolding(crate::specs::Lists::opcode_of))]
     fn read(&self, alloc: Global, list: u8, index: u32) -> Result<Opcode, OpcodeFault>
+        requires { list ≤ 3 }
         ensures answer { Answers result (opcode_of list index (raw_seen self.now)) }
-        ensures can_run { IfOk result CanRun }
+        ensures can_run { IfOk result (CanRunIn list) }
     {
         let id = self.id;
         match self.barred_by(list, index) {
             Some(_) if self.is_optional() => Ok(Opcode::Skipped { id }),
             Some(fault) => Err(fault),
-            None => opcode_with(alloc, id, self.params)?.ok_or(OpcodeFault::BadParams {
-                index,
-                id,
-            }),
+            None => match opcode_with(alloc, id, self.params)? {
+                Some(opcode) => Ok(opcode),
+                None => Err(OpcodeFault::BadParams { index, id }),
+            },
         }
     }
 }
@@ -109,7 +111,7 @@ pub fn read_list(alloc: Global, bytes: &[u8], list: u8) -> Result<Items<Opcode>,
     requires low { 1 ≤ list }
     requires high { list ≤ 3 }
     ensures answer { Answers result (opcodes_of list bytes.now) }
-    ensures can_run { IfOk result (All CanRun) }
+    ensures can_run { IfOk result (All (CanRunIn list)) }
     ensures count { IfOk result (λ opcodes. length opcodes ≤ 16) }
 {
     if bytes.len() < 4 {
@@ -129,8 +131,9 @@ fn read_opcodes(
     list: u8,
     count: u32,
 ) -> Result<Items<Opcode>, OpcodeFault>
+    requires { list ≤ 3 }
     ensures answer { Answers result (opcodes_from list 0 (cut_opcodes count bytes.now)) }
-    ensures can_run { IfOk result (All CanRun) }
+    ensures can_run { IfOk result (All (CanRunIn list)) }
     ensures count { IfOk result (λ opcodes. length opcodes ≤ count) }
 {
     let mut opcodes = Vec::new(alloc);

@@ -2,7 +2,7 @@
 
 ghost use Rattle.std.specs.Prelude.{◌≡◌, ◌+◌, ◌*◌, ◌≤◌, length, IfOk, IfSome};
 ghost use Rattle.opcode_list.specs.Cuts.{long_at, short_at};
-ghost use Rattle.opcode_list.specs.Params.{CanRun, constant_of, fix_list_of, list_of, map_of, opcode_with, points_at, rect_at, rects_at, table_at, trim_of};
+ghost use Rattle.opcode_list.specs.Params.{CanRun, CanRunIn, MayStandIn, constant_of, fix_list_of, list_of, map_of, opcode_with, points_at, rect_at, rects_at, table_at, trim_of};
 
 use crate::opcode::Opcode;
 use byteorder::{BigEndian, ByteOrder};
@@ -159,7 +159,7 @@ fn fix_list(alloc: Global, params: &[u8]) -> Result<Option<Opcode>, AllocError>
 #[tactic(auto, unfolding(crate::specs::Params::trim_of, crate::specs::Params::rect_at))]
 fn trim(params: &[u8]) -> Option<Opcode>
     ensures opcode { result ≡ trim_of params.now }
-    ensures can_run { IfSome result CanRun }
+    ensures can_run { IfSome result (CanRunIn 3) }
 {
     if params.len() != 16 {
         return None;
@@ -175,7 +175,7 @@ fn trim(params: &[u8]) -> Option<Opcode>
 #[tactic(auto, unfolding(crate::specs::Params::map_of))]
 fn map_table(alloc: Global, params: &[u8]) -> Result<Option<Opcode>, AllocError>
     ensures opcode { IfOk result (λ opcode. opcode ≡ map_of params.now) }
-    ensures can_run { IfOk result (λ opcode. IfSome opcode CanRun) }
+    ensures can_run { IfOk result (λ opcode. IfSome opcode (CanRunIn 3)) }
 {
     if params.len() < 36 {
         return Ok(None);
@@ -210,6 +210,7 @@ pub(crate) fn opcode_with(
 ) -> Result<Option<Opcode>, AllocError>
     ensures opcode { IfOk result (λ opcode. opcode ≡ opcode_with id params.now) }
     ensures can_run { IfOk result (λ opcode. IfSome opcode CanRun) }
+    ensures mends { 6 ≤ id → IfOk result (λ opcode. IfSome opcode (MayStandIn 3)) }
 {
     match id {
         FIX_BAD_PIXELS_CONSTANT => Ok(fix_constant(params)),
