@@ -5,13 +5,13 @@ use Rattle.std.proofs.lemmas.Bool.{le-ltb, lt-ltb}
 use Rattle.raw_io.specs.Outside.{Rises}
 use Rattle.raw_io.specs.declared.whole.ReadFault.{ReadFault}
 use Rattle.raw_io.specs.declared.whole.ReadFault.TheVariants as reads
-use Rattle.dng_tags.specs.Answers.{and_then}
+use Rattle.tag_rules.specs.Answers.{and_then}
 use Rattle.dng_tags.specs.Frame.{frame_of}
 use Rattle.dng_tags.specs.Raw.{undecoded}
 use Rattle.dng_tags.specs.declared.record.Frame.{Frame}
-use Rattle.dng_tags.specs.declared.faults.FrameFault.{FrameFault}
-use Rattle.dng_tags.specs.declared.faults.FrameFault.TheVariants.{TooLong}
-use Rattle.dng_tags.specs.declared.faults.FrameFault.TheVariants as frames
+use Rattle.tag_rules.specs.declared.faults.FrameFault.{FrameFault}
+use Rattle.tag_rules.specs.declared.faults.FrameFault.TheVariants.{TooLong}
+use Rattle.tag_rules.specs.declared.faults.FrameFault.TheVariants as frames
 use Rattle.developer.specs.Opening.{Opening, file_frame, if_decoded, opened_as, opened_file, refused_frame}
 use Rattle.developer.specs.Opens.{OpensFile, open_fault, refused_or_memory}
 use Rattle.developer.proofs.Outsides.{if_some}

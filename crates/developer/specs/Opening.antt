@@ -1,11 +1,11 @@
 -- What the words and the files call for, before the script. This is this project's own.
 use Rattle.std.specs.Prelude.{ℕ, ◌^◌, nat_lt, if◌then◌else◌, List, length, Option, None, Some, Result, Ok, Err}
-use Rattle.dng_tags.specs.Answers.{and_then}
+use Rattle.tag_rules.specs.Answers.{and_then}
 use Rattle.dng_tags.specs.Frame.{frame_of}
 use Rattle.dng_tags.specs.Raw.{undecoded}
 use Rattle.dng_tags.specs.declared.record.Frame.{Frame}
-use Rattle.dng_tags.specs.declared.faults.FrameFault.{FrameFault}
-use Rattle.dng_tags.specs.declared.faults.FrameFault.TheVariants.{TooLong}
+use Rattle.tag_rules.specs.declared.faults.FrameFault.{FrameFault}
+use Rattle.tag_rules.specs.declared.faults.FrameFault.TheVariants.{TooLong}
 use Rattle.developer.specs.Words.{Options, options}
 use Rattle.developer.specs.Refusals.{refusal_line, usage_line}
 use Rattle.developer.specs.declared.status.Status.{Status}

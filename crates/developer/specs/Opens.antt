@@ -3,8 +3,8 @@ use Rattle.std.specs.Prelude.{◌≡◌, ℕ, ◌≤◌, ◌⊎◌, List, Option
 use Rattle.raw_io.specs.Outside.{Appends, IsFrontOf, Rises}
 use Rattle.raw_io.specs.declared.whole.ReadFault.{ReadFault}
 use Rattle.raw_io.specs.declared.whole.ReadFault.TheVariants as reads
-use Rattle.dng_tags.specs.declared.faults.FrameFault.{FrameFault}
-use Rattle.dng_tags.specs.declared.faults.FrameFault.TheVariants as frames
+use Rattle.tag_rules.specs.declared.faults.FrameFault.{FrameFault}
+use Rattle.tag_rules.specs.declared.faults.FrameFault.TheVariants as frames
 use Rattle.developer.specs.Opening.{Opened, opened_file, refused_frame}
 use Rattle.developer.specs.declared.opening.OpenFault.{OpenFault}
 use Rattle.developer.specs.declared.opening.OpenFault.TheVariants.{Refused, Unread, Memory}

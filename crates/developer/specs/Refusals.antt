@@ -1,7 +1,7 @@
 -- The lines that are written where the words or the frame are refused. All of it is this project's own.
 use Rattle.std.specs.Prelude.{List, ℕ, ◌++◌, codes}
-use Rattle.dng_tags.specs.FaultText.{fault_text}
-use Rattle.dng_tags.specs.declared.faults.FrameFault.{FrameFault}
+use Rattle.tag_rules.specs.FaultText.{fault_text}
+use Rattle.tag_rules.specs.declared.faults.FrameFault.{FrameFault}
 
 -- what is written where the words are refused
 abbrev pub usage_line : List ℕ

@@ -11,6 +11,8 @@ use test_frames::{TestFrame, bright_red, flat, patch, plain};
 use tiff_dirs::Order;
 use tiff_write::{Field, Place};
 
+mod opcodes;
+
 const ROOM: usize = 1 << 16;
 
 const USAGE_LINE: &[u8] = b"usage: rawdev FRAME [--settings FILE] [--budget SAMPLES] [--cell N]\n";
@@ -219,9 +221,6 @@ fn entries_are_refused_by_name(rt: HostRuntime) -> Result<(), Fail> {
     let short = flat(alloc)?.with(Field::longs(alloc, 279, &[31])?)?;
     let file = short.bytes(alloc, Order::Little)?;
     assert!(rt; is_refused(alloc, &file, b"refused Segment 0 Short 32 31\n")?);
-    let opcodes = flat(alloc)?.with(Field::bytes(alloc, 51008, &[0, 0, 0, 0, 0])?)?;
-    let file = opcodes.bytes(alloc, Order::Little)?;
-    assert!(rt; is_refused(alloc, &file, b"refused NotYet\n")?);
     Ok(())
 }
 

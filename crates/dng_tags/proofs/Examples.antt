@@ -1,22 +1,25 @@
 -- The frame definition at work on a flat frame of 4 by 4 samples, 154 bytes, and on parts of it.
-use Rattle.std.proofs.Common.{◌≡◌, ℕ, ℤ, pos, negsuc, List, [], ◌∷◌, ◌++◌, take, drop, Ok, Err, Some, None, refl, true, false}
+use Rattle.std.proofs.Common.{◌≡◌, ℕ, ℤ, pos, negsuc, List, [], ◌∷◌, take, Ok, Err, Some, None, refl, true, false}
 use Rattle.tiff_dirs.specs.Entries.{entries, entry_of, field_of, field_or_fault, slot_at, value_fits, value_place, value_size}
-use Rattle.tiff_dirs.specs.Header.{directory_fits, directory_of, entry_count, first_directory, has_header, is_big, is_little, open_of, order_of}
+use Rattle.tiff_dirs.specs.Header.{directory_fits, entry_count, first_directory, has_header, is_big, is_little, open_of, order_of}
 use Rattle.tiff_dirs.specs.Kinds.{size_of}
 use Rattle.tiff_dirs.specs.Numbers.{number_at}
-use Rattle.tiff_dirs.specs.Values.{number_in, rational_in}
+use Rattle.tiff_dirs.specs.Values.{number_in}
 use Rattle.tiff_dirs.specs.declared.Order.TheVariants.{Little}
-use Rattle.dng_tags.specs.Area.{active_of, crop_of, crop_rect, extent_of, large_enough}
-use Rattle.dng_tags.specs.Black.{black_at, greatest_black, levels_of, levels_under, repeat_of, span_of, spanning, table_of, white_of}
-use Rattle.dng_tags.specs.Colours.{analog_of, calibration_in, calibration_of, colour_of, gain_of, gains_in, gains_of, has_gain, is_diagonal, is_positive, matrix_in, matrix_of}
-use Rattle.dng_tags.specs.Form.{depth_of, form_of, format_of, lossless_of, number_or, photometric_of, required_number_of, required_numbers_of, samples_per_pixel_of, shape_of, side_of}
-use Rattle.dng_tags.specs.Frame.{frame_of, lacks, record_of, without_opcodes_of}
-use Rattle.dng_tags.specs.Layout.{checked_layout, checked_tile_side, layout_of, rect_at, segment_at, segments_in, segments_of, strip_rows_of, strips_of, tiles_of}
-use Rattle.dng_tags.specs.Origin.{first_raw, needed_version_of, origin_of, raw_directory_of, subfile_type_at, tiff_of, version_of}
+use Rattle.dng_tags.specs.Area.{active_of, crop_of, extent_of, large_enough}
+use Rattle.dng_tags.specs.Black.{greatest_black, levels_of, levels_under, repeat_of, span_of, spanning, table_of, white_of}
+use Rattle.dng_tags.specs.Colours.{analog_of, calibration_of, colour_of, gain_of, gains_in, gains_of, has_gain, is_positive, matrix_of}
+use Rattle.dng_tags.specs.Form.{depth_of, form_of, format_of, lossless_of, photometric_of, samples_per_pixel_of, shape_of, side_of}
+use Rattle.tag_rules.specs.Values.{field_at, fractions_at, fractions_in, fractions_of, number_of, number_or, numbers_at, numbers_in, numbers_of, required_number_of, required_numbers_of}
+use Rattle.dng_tags.specs.Frame.{frame_of, record_of}
+use Rattle.dng_tags.specs.Listed.{listed_of}
+use Rattle.opcode_list.specs.Trims.{first_misfit, left_after}
+use Rattle.tag_rules.specs.Opcodes.{opcodes_under}
+use Rattle.dng_tags.specs.Layout.{checked_layout, layout_of, rect_at, segment_at, segments_in, segments_of, strip_rows_of, strips_of}
+use Rattle.dng_tags.specs.Origin.{needed_version_of, origin_of, raw_directory_of, subfile_type_at, tiff_of, version_of}
 use Rattle.dng_tags.specs.Pattern.{colours_of, has_plane_colours, has_square_layout, pattern_of, pattern_size_of}
-use Rattle.dng_tags.specs.Quantities.{in_parts, is_on, level_scale, on_scale}
-use Rattle.dng_tags.specs.Values.{field_at, fractions_at, fractions_in, fractions_of, number_of, numbers_at, numbers_in, numbers_of}
-use Rattle.dng_tags.specs.declared.faults.FrameFault.TheVariants.{BadDirectory, NotTiff, Outside}
+use Rattle.tag_rules.specs.Quantities.{in_parts}
+use Rattle.tag_rules.specs.declared.faults.FrameFault.TheVariants.{BadDirectory, NotTiff, Outside}
 use Rattle.dng_tags.specs.declared.record.Frame.{Frame}
 use Rattle.dng_tags.specs.declared.record.Levels.{Levels}
 
@@ -49,8 +52,11 @@ flat_record = record {
   order = Little;
   segments = record { at = 122; length = 32; rect = record { top = 0; left = 0; bottom = 4; right = 4 }; full_rows = 4; full_cols = 4 } ∷ [];
   cfa = 0 ∷ 1 ∷ 1 ∷ 2 ∷ [];
+  list1 = [];
   active = record { top = 0; left = 0; bottom = 4; right = 4 };
   levels = record { table = []; black_rows = 1; black_cols = 1; black = pos 0 ∷ []; delta_h = []; delta_v = []; white = 65535 };
+  list2 = [];
+  list3 = [];
   crop = record { top = 0; left = 0; bottom = 4; right = 4 };
   colour = record {
     gains = 4096 ∷ 4096 ∷ 4096 ∷ [];
@@ -65,7 +71,7 @@ flat_record = record {
 }
 
 flat-frame : frame_of flat ≡ Ok flat_record
-unfolding frame_of record_of tiff_of open_of origin_of version_of needed_version_of raw_directory_of subfile_type_at form_of photometric_of lossless_of samples_per_pixel_of depth_of format_of shape_of side_of required_number_of number_or segments_of layout_of strips_of strip_rows_of required_numbers_of checked_layout segments_in segment_at rect_at pattern_of pattern_size_of colours_of has_plane_colours has_square_layout without_opcodes_of lacks active_of large_enough levels_of table_of repeat_of levels_under white_of spanning span_of greatest_black crop_of extent_of colour_of matrix_of calibration_of analog_of gains_of numbers_of number_of numbers_at fractions_of fractions_at field_at numbers_in fractions_in order_of is_big is_little has_header first_directory directory_fits entry_count number_at entry_of entries field_or_fault field_of value_fits value_size value_place slot_at size_of number_in
+unfolding frame_of record_of tiff_of open_of origin_of version_of needed_version_of raw_directory_of subfile_type_at form_of photometric_of lossless_of samples_per_pixel_of depth_of format_of shape_of side_of required_number_of number_or segments_of layout_of strips_of strip_rows_of required_numbers_of checked_layout segments_in segment_at rect_at pattern_of pattern_size_of colours_of has_plane_colours has_square_layout listed_of opcodes_under first_misfit left_after active_of large_enough levels_of table_of repeat_of levels_under white_of spanning span_of greatest_black crop_of extent_of colour_of matrix_of calibration_of analog_of gains_of numbers_of number_of numbers_at fractions_of fractions_at field_at numbers_in fractions_in order_of is_big is_little has_header first_directory directory_fits entry_count number_at entry_of entries field_or_fault field_of value_fits value_size value_place slot_at size_of number_in
 flat-frame = refl
 
 -- one byte fewer, and a shorter file

@@ -1,8 +1,6 @@
 pub mod AreaLemmas
 mod Examples
 pub mod LayoutLemmas
-pub mod ListLemmas
 pub mod OriginLemmas
 pub mod RawLemmas
 pub mod SpanLemmas
-pub mod ValuesLemmas

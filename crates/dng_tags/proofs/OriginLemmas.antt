@@ -1,5 +1,5 @@
 -- The search for the raw image's directory, one offset after the other.
-use Rattle.std.proofs.Common.{◌≡◌, ℕ, ◌+◌, ◌<◌, ◌≤◌, nat_eq, List, length, drop, slice_index, Result, Ok, Err, Bool, true, false, cond, refl, arith, add-one}
+use Rattle.std.proofs.Common.{◌≡◌, ℕ, ◌+◌, ◌<◌, ◌≤◌, nat_eq, List, length, drop, slice_index, Ok, Err, Bool, true, false, cond, refl, arith, add-one}
 use Rattle.std.specs.Prelude.{if◌then◌else◌, ◌==◌}
 use Rattle.std.proofs.lemmas.Bool.Decides.{nat_tests}
 use Rattle.std.proofs.Math.Seq.{drop-cons}
@@ -7,10 +7,9 @@ use Rattle.std.proofs.lemmas.List.{drop_all}
 use Rattle.tiff_dirs.specs.Header.{directory_fits, directory_of, first_directory, has_header, open_of}
 use Rattle.tiff_dirs.specs.declared.TiffFault.{TiffFault}
 use Rattle.tiff_dirs.specs.declared.TiffFault.TheVariants.{BadDirectory as BadDirectoryOfFile, NotTiff as NotTiffOfFile}
-use Rattle.dng_tags.specs.Answers.{and_then}
+use Rattle.tag_rules.specs.Answers.{and_then}
 use Rattle.dng_tags.specs.Origin.{first_raw, refusing, subfile_type_at, tiff_of}
-use Rattle.dng_tags.specs.declared.faults.FrameFault.{FrameFault}
-use Rattle.dng_tags.specs.declared.faults.FrameFault.TheVariants.{NoRaw}
+use Rattle.tag_rules.specs.declared.faults.FrameFault.TheVariants.{NoRaw}
 
 -- the search at offset i
 pub first_raw_step : (bytes offsets : List ℕ) (i : ℕ) → i < length offsets → first_raw bytes (drop i offsets)

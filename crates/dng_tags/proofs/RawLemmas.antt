@@ -1,12 +1,9 @@
 -- Raw samples, and segments that can be decoded.
-use Rattle.std.proofs.Common.{◌≡◌, ℕ, zero, suc, ◌+◌, ◌*◌, ◌<◌, ◌≤◌, Bool, true, false, List, [], ◌∷◌, Option, None, Some, length, get_or, drop, inl, inr, slice_get, slice_index, refl, sym, ap, ◌∙◌, subst, arith, drop-cons}
+use Rattle.std.proofs.Common.{◌≡◌, ℕ, zero, suc, ◌+◌, Bool, true, List, [], ◌∷◌, None, Some, inl, inr, slice_get, slice_index, refl, arith}
 use Rattle.std.specs.List.{find}
-use Rattle.std.specs.Option.{option_map_or}
-use Rattle.std.proofs.lemmas.Bool.{cases_Bool, false≢true}
+use Rattle.std.proofs.lemmas.Bool.{cases_Bool}
 use Rattle.plane_view.specs.Rectangles.{HasPixel, has_pixel}
 use Rattle.plane_view.proofs.Pixels.{has_pixel-true, pixel_of_test}
-use Rattle.dng_tags.specs.declared.faults.FrameFault.{FrameFault}
-use Rattle.dng_tags.specs.declared.faults.SegmentFault.{SegmentFault}
 use Rattle.dng_tags.specs.declared.record.Coding.{Coding}
 use Rattle.dng_tags.specs.declared.record.Segment.{Segment}
 use Rattle.dng_tags.specs.Raw.{coded_place, coded_samples, fault_from, raw_sample, refused_or, segment_fault}

@@ -1,18 +1,18 @@
 -- The groups of the active area, of the size at demosaicing and of the default crop (DNG 1.6, chapter 4, "ActiveArea",
 -- "DefaultCropOrigin", "DefaultCropSize"). The rounding and the smallest size are this project's own.
-use Rattle.std.specs.Prelude.{ℕ, ◌-◌, ◌≤ℤ◌, neg_ℤ, nat_le, nat_lt, ◌&&◌, if◌then◌else◌, ℤ, pos, ◌+ℤ◌, ◌-ℤ◌, int_le, int_lt, Bool, List, slice_index, slice_index_or, Option, None, Some, Result, Ok, Err, unwrap_or, unsigned_abs}
+use Rattle.std.specs.Prelude.{ℕ, ◌≤ℤ◌, neg_ℤ, nat_le, nat_lt, ◌&&◌, if◌then◌else◌, ℤ, pos, ◌+ℤ◌, ◌-ℤ◌, int_lt, Bool, List, slice_index, slice_index_or, Option, None, Some, Result, Ok, Err, unwrap_or, unsigned_abs}
 use Rattle.std.specs.Int.{int_div_euclid, int_max, int_min}
 use Rattle.std.specs.Option.{option_map_or}
-use Rattle.plane_view.specs.Rectangles.{height, whole_rect, width}
+use Rattle.plane_view.specs.Rectangles.{whole_rect}
 use Rattle.plane_view.specs.declared.Rect.{Rect}
 use Rattle.plane_view.specs.declared.Shape.{Shape}
-use Rattle.dng_tags.specs.Answers.{and_then}
-use Rattle.dng_tags.specs.Values.{Dirs, fractions_of, numbers_of}
+use Rattle.tag_rules.specs.Answers.{and_then}
+use Rattle.tag_rules.specs.Values.{Dirs, fractions_of, numbers_of}
 use Rattle.dng_tags.specs.declared.area.Extent.{Extent}
-use Rattle.dng_tags.specs.declared.faults.FrameFault.{FrameFault}
-use Rattle.dng_tags.specs.declared.faults.FrameFault.TheVariants.{Active, Crop, Size}
-use Rattle.dng_tags.specs.declared.tags.Tag.{Tag}
-use Rattle.dng_tags.specs.declared.tags.Tag.TheVariants.{ActiveArea, DefaultCropOrigin, DefaultCropSize}
+use Rattle.tag_rules.specs.declared.faults.FrameFault.{FrameFault}
+use Rattle.tag_rules.specs.declared.faults.FrameFault.TheVariants.{Active, Crop, Size}
+use Rattle.tag_rules.specs.declared.tags.Tag.{Tag}
+use Rattle.tag_rules.specs.declared.tags.Tag.TheVariants.{ActiveArea, DefaultCropOrigin, DefaultCropSize}
 
 -- top, left, bottom, right
 abbrev pub rect_in : List ℕ → Rect
@@ -23,7 +23,7 @@ rect_in xs =
 abbrev pub has_pixels : Rect → Bool
 has_pixels rect = nat_lt rect.top rect.bottom && nat_lt rect.left rect.right
 
--- the active area: the whole image where nothing is told
+-- the active area, in the plane that list 1 leaves: the whole plane where nothing is told
 unfoldable pub active_of : Dirs → Shape → Result Rect FrameFault
 active_of dirs shape =
     and_then (numbers_of dirs ActiveArea) (λ found.
@@ -31,9 +31,9 @@ active_of dirs shape =
     if has_pixels active && nat_le active.bottom shape.rows && nat_le active.right shape.cols
     then Ok active else Err Active)
 
--- an area that is large enough to be demosaiced
-unfoldable pub large_enough : Rect → Result Rect FrameFault
-large_enough active = if nat_le 4 (height active) && nat_le 4 (width active) then Ok active else Err Size
+-- a plane that is large enough to be demosaiced
+unfoldable pub large_enough : Shape → Result Shape FrameFault
+large_enough shape = if nat_le 4 shape.rows && nat_le 4 shape.cols then Ok shape else Err Size
 
 -- a fraction rounded down
 abbrev pub rounded_down : ℤ × ℤ → ℤ

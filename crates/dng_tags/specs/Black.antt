@@ -7,15 +7,15 @@ use Rattle.std.specs.List.{range_with_len}
 use Rattle.std.specs.Option.{option_map_or}
 use Rattle.plane_view.specs.Rectangles.{height, width}
 use Rattle.plane_view.specs.declared.Rect.{Rect}
-use Rattle.dng_tags.specs.Answers.{and_then}
-use Rattle.dng_tags.specs.Quantities.{level_scale, on_scale}
-use Rattle.dng_tags.specs.Values.{Dirs, fractions_of, number_of, numbers_of}
+use Rattle.tag_rules.specs.Answers.{and_then}
+use Rattle.tag_rules.specs.Quantities.{level_scale, on_scale}
+use Rattle.tag_rules.specs.Values.{Dirs, fractions_of, number_of, numbers_of}
 use Rattle.dng_tags.specs.declared.black.Repeat.{Repeat}
-use Rattle.dng_tags.specs.declared.faults.FrameFault.{FrameFault}
-use Rattle.dng_tags.specs.declared.faults.FrameFault.TheVariants.{Levels as LevelsFault}
+use Rattle.tag_rules.specs.declared.faults.FrameFault.{FrameFault}
+use Rattle.tag_rules.specs.declared.faults.FrameFault.TheVariants.{Levels as LevelsFault}
 use Rattle.dng_tags.specs.declared.record.Levels.{Levels}
-use Rattle.dng_tags.specs.declared.tags.Tag.{Tag}
-use Rattle.dng_tags.specs.declared.tags.Tag.TheVariants.{BlackLevel, BlackLevelDeltaH, BlackLevelDeltaV, BlackLevelRepeatDim, LinearizationTable, WhiteLevel}
+use Rattle.tag_rules.specs.declared.tags.Tag.{Tag}
+use Rattle.tag_rules.specs.declared.tags.Tag.TheVariants.{BlackLevel, BlackLevelDeltaH, BlackLevelDeltaV, BlackLevelRepeatDim, LinearizationTable, WhiteLevel}
 
 -- the black level at row r, column c of the active area: that of the pattern's place, and what its column and its row add
 abbrev pub black_at : Levels → (r c : ℕ) → ℤ

@@ -1,16 +1,16 @@
 -- The group of the colour tags (DNG 1.6, chapter 4, "ColorMatrix1" to "ForwardMatrix2", and chapter 6, "Mapping Camera Color
 -- Space to CIE XYZ Space"). The numbers of parts, their limits, and that a calibration is diagonal are this project's own.
-use Rattle.std.specs.Prelude.{ℕ, ◌+◌, ◌*◌, ◌/◌, ◌==◌, nat_le, ◌&&◌, ◌||◌, if◌then◌else◌, ℤ, pos, negsuc, ◌*ℤ◌, int_le, int_lt, Bool, true, false, not, List, [], ◌∷◌, map, slice_index_or, Option, None, Some, Result, Ok, Err, unsigned_abs}
-use Rattle.std.specs.List.{list_all, range_with_len}
-use Rattle.dng_tags.specs.Answers.{and_then}
-use Rattle.dng_tags.specs.Quantities.{colour_scale, on_scale}
-use Rattle.dng_tags.specs.Tags.{rule_of}
-use Rattle.dng_tags.specs.Values.{Dirs, fractions_of}
-use Rattle.dng_tags.specs.declared.faults.FrameFault.{FrameFault}
-use Rattle.dng_tags.specs.declared.faults.FrameFault.TheVariants.{Colour as ColourFault}
+use Rattle.std.specs.Prelude.{ℕ, ◌+◌, ◌*◌, ◌/◌, ◌==◌, nat_le, ◌&&◌, if◌then◌else◌, ℤ, pos, int_lt, Bool, List, [], ◌∷◌, map, slice_index_or, Option, None, Some, Result, Ok, Err, unsigned_abs}
+use Rattle.std.specs.List.{list_all}
+use Rattle.tag_rules.specs.Answers.{and_then}
+use Rattle.tag_rules.specs.Quantities.{colour_scale, on_scale}
+use Rattle.tag_rules.specs.Tags.{rule_of}
+use Rattle.tag_rules.specs.Values.{Dirs, fractions_of}
+use Rattle.tag_rules.specs.declared.faults.FrameFault.{FrameFault}
+use Rattle.tag_rules.specs.declared.faults.FrameFault.TheVariants.{Colour as ColourFault}
 use Rattle.dng_tags.specs.declared.record.Colour.{Colour}
-use Rattle.dng_tags.specs.declared.tags.Tag.{Tag}
-use Rattle.dng_tags.specs.declared.tags.Tag.TheVariants.{AnalogBalance, AsShotNeutral, CameraCalibration1, CameraCalibration2, ColorMatrix1, ColorMatrix2, ForwardMatrix1, ForwardMatrix2}
+use Rattle.tag_rules.specs.declared.tags.Tag.{Tag}
+use Rattle.tag_rules.specs.declared.tags.Tag.TheVariants.{AnalogBalance, AsShotNeutral, CameraCalibration1, CameraCalibration2, ColorMatrix1, ColorMatrix2, ForwardMatrix1, ForwardMatrix2}
 
 -- the refusal of a colour tag
 abbrev pub colour_fault : Tag → FrameFault

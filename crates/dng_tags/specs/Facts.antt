@@ -1,12 +1,14 @@
 -- What holds of the record of each frame that is read. The limits are this project's own.
-use Rattle.std.specs.Prelude.{◌≡◌, ℕ, ◌+◌, ◌*◌, ◌^◌, ◌<◌, ◌≤◌, ℤ, pos, ◌<ℤ◌, ◌⊎◌, List, length, slice_get, slice_index, Option, None, Some, IfSome}
+use Rattle.std.specs.Prelude.{◌≡◌, ℕ, ◌+◌, ◌*◌, ◌^◌, ◌<◌, ◌≤◌, ℤ, pos, ◌<ℤ◌, ◌⊎◌, All, List, length, slice_get, slice_index, Option, None, Some, IfSome}
 use Rattle.plane_view.specs.Rectangles.{HasPixel, IsNonEmpty, LiesIn, height, whole_rect, width}
-use Rattle.plane_view.specs.declared.Rect.{Rect}
 use Rattle.plane_view.specs.declared.Shape.{Shape}
 use Rattle.tiff_dirs.specs.Header.{order_of}
 use Rattle.dng_tags.specs.Black.{span_of}
+use Rattle.dng_tags.specs.Listed.{after_list1, after_list2, after_list3, area_shape, coloured_shape}
 use Rattle.dng_tags.specs.Pattern.{patterns}
-use Rattle.dng_tags.specs.Quantities.{AreWithin}
+use Rattle.opcode_list.specs.Params.{CanRunIn}
+use Rattle.opcode_list.specs.Trims.{first_misfit}
+use Rattle.tag_rules.specs.Quantities.{AreWithin}
 use Rattle.std.specs.List.{Contains}
 use Rattle.dng_tags.specs.declared.record.Colour.{Colour}
 use Rattle.dng_tags.specs.declared.record.Frame.{Frame}
@@ -86,11 +88,17 @@ pub record IsFrame (frame : Frame) (bytes : List ℕ) : Type 0 where
   pub parts : AreParts frame.shape frame.segments
   pub inside : LieWithin (length bytes) frame.segments
   pub pattern : Contains patterns frame.cfa
+  pub list1 : All (CanRunIn 1) frame.list1
+  pub fit1 : first_misfit 0 frame.list1 frame.shape ≡ None
   pub active_some : IsNonEmpty frame.active
-  pub active : LiesIn frame.active (whole_rect frame.shape.rows frame.shape.cols)
-  pub rows : 4 ≤ height frame.active
-  pub cols : 4 ≤ width frame.active
+  pub active : LiesIn frame.active (whole_rect (after_list1 frame).rows (after_list1 frame).cols)
   pub levels : AreLevels frame.levels (height frame.active) (width frame.active)
+  pub list2 : All (CanRunIn 2) frame.list2
+  pub fit2 : first_misfit 0 frame.list2 (area_shape frame.active) ≡ None
+  pub rows : 4 ≤ (after_list2 frame).rows
+  pub cols : 4 ≤ (after_list2 frame).cols
+  pub list3 : All (CanRunIn 3) frame.list3
+  pub fit3 : first_misfit 0 frame.list3 (coloured_shape (after_list2 frame)) ≡ None
   pub crop_some : IsNonEmpty frame.crop
-  pub crop : LiesIn frame.crop (whole_rect (height frame.active) (width frame.active))
+  pub crop : LiesIn frame.crop (whole_rect (after_list3 frame).rows (after_list3 frame).cols)
   pub colour : AreColours frame.colour

@@ -1,30 +1,15 @@
 -- The second group: what kind of image it is (TIFF 6.0, section 8, "PhotometricInterpretation", "Compression",
 -- "SamplesPerPixel", "BitsPerSample", "ImageWidth", "ImageLength", and section 19, "SampleFormat"; DNG 1.6, chapter 4, for
 -- photometric interpretation 32803 and compression 7). The limits of the image's size are this project's own.
-use Rattle.std.specs.Prelude.{ℕ, ◌*◌, ◌^◌, ◌==◌, nat_le, ◌&&◌, ◌||◌, if◌then◌else◌, Bool, List, Result, Ok, Err, unwrap_or}
+use Rattle.std.specs.Prelude.{ℕ, ◌*◌, ◌^◌, ◌==◌, nat_le, ◌&&◌, ◌||◌, if◌then◌else◌, Bool, Result, Ok, Err}
 use Rattle.plane_view.specs.declared.Shape.{Shape}
-use Rattle.dng_tags.specs.Answers.{and_then, or_refuse}
-use Rattle.dng_tags.specs.Tags.{rule_of}
-use Rattle.dng_tags.specs.Values.{Dirs, number_of, numbers_of}
-use Rattle.dng_tags.specs.declared.faults.FrameFault.{FrameFault}
-use Rattle.dng_tags.specs.declared.faults.FrameFault.TheVariants.{BadEntry, Compression as CompressionFault, Depth, Format, Photometric, Samples, Size}
+use Rattle.tag_rules.specs.Answers.{and_then}
+use Rattle.tag_rules.specs.Values.{Dirs, number_or, required_number_of}
+use Rattle.tag_rules.specs.declared.faults.FrameFault.{FrameFault}
+use Rattle.tag_rules.specs.declared.faults.FrameFault.TheVariants.{Compression as CompressionFault, Depth, Format, Photometric, Samples, Size}
 use Rattle.dng_tags.specs.declared.form.Form.{Form}
-use Rattle.dng_tags.specs.declared.tags.Tag.{Tag}
-use Rattle.dng_tags.specs.declared.tags.Tag.TheVariants.{BitsPerSample, Compression, ImageLength, ImageWidth, PhotometricInterpretation, SampleFormat, SamplesPerPixel}
-
--- the number of a tag that has to be there
-unfoldable pub required_number_of : Dirs → Tag → Result ℕ FrameFault
-required_number_of dirs tag =
-    and_then (number_of dirs tag) (λ found. or_refuse found (BadEntry (rule_of tag).number))
-
--- the numbers of a tag that has to be there
-unfoldable pub required_numbers_of : Dirs → Tag → Result (List ℕ) FrameFault
-required_numbers_of dirs tag =
-    and_then (numbers_of dirs tag) (λ found. or_refuse found (BadEntry (rule_of tag).number))
-
--- the number of a tag, or its default
-unfoldable pub number_or : Dirs → Tag → ℕ → Result ℕ FrameFault
-number_or dirs tag default = and_then (number_of dirs tag) (λ found. Ok (unwrap_or found default))
+use Rattle.tag_rules.specs.declared.tags.Tag.{Tag}
+use Rattle.tag_rules.specs.declared.tags.Tag.TheVariants.{BitsPerSample, Compression, ImageLength, ImageWidth, PhotometricInterpretation, SampleFormat, SamplesPerPixel}
 
 -- a colour filter array
 unfoldable pub photometric_of : Dirs → Result ℕ FrameFault

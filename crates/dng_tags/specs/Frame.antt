@@ -1,40 +1,19 @@
 -- The frame definition: the record of what a file says of its frame, or the first refusal, group by group. The order of the
 -- groups is this project's own.
-use Rattle.std.specs.Prelude.{ℕ, ◌&&◌, if◌then◌else◌, Bool, true, false, List, Option, None, Some, Result, Ok, Err}
-use Rattle.tiff_dirs.specs.Entries.{Field, entry_of}
+use Rattle.std.specs.Prelude.{ℕ, List, Result, Ok}
 use Rattle.tiff_dirs.specs.Header.{order_of}
-use Rattle.tiff_dirs.specs.declared.EntryFault.{EntryFault}
-use Rattle.plane_view.specs.Rectangles.{height, width}
-use Rattle.dng_tags.specs.Answers.{and_then}
+use Rattle.tag_rules.specs.Answers.{and_then}
+use Rattle.tag_rules.specs.Values.{Dirs}
+use Rattle.tag_rules.specs.declared.faults.FrameFault.{FrameFault}
 use Rattle.dng_tags.specs.Area.{active_of, crop_of, large_enough}
 use Rattle.dng_tags.specs.Black.{levels_of}
 use Rattle.dng_tags.specs.Colours.{colour_of}
 use Rattle.dng_tags.specs.Form.{form_of}
 use Rattle.dng_tags.specs.Layout.{segments_of}
+use Rattle.dng_tags.specs.Listed.{area_shape, coloured_shape, listed_of}
 use Rattle.dng_tags.specs.Origin.{origin_of, tiff_of}
 use Rattle.dng_tags.specs.Pattern.{pattern_of}
-use Rattle.dng_tags.specs.Tags.{rule_of}
-use Rattle.dng_tags.specs.Values.{Dirs}
-use Rattle.dng_tags.specs.declared.faults.FrameFault.{FrameFault}
-use Rattle.dng_tags.specs.declared.faults.FrameFault.TheVariants.{NotYet}
 use Rattle.dng_tags.specs.declared.record.Frame.{Frame}
-use Rattle.dng_tags.specs.declared.tags.Tag.{Tag}
-use Rattle.dng_tags.specs.declared.tags.Tag.TheVariants.{OpcodeList1, OpcodeList2, OpcodeList3}
-
--- whether there is no entry, also none that can't be read
-abbrev pub is_absent : Result (Option Field) EntryFault → Bool
-is_absent (Ok None) = true
-is_absent (Ok (Some field)) = false
-is_absent (Err fault) = false
-
--- whether the raw image's directory has no entry of a tag
-unfoldable pub lacks : Dirs → Tag → Bool
-lacks dirs tag = is_absent (entry_of dirs.bytes dirs.raw (rule_of tag).number)
-
--- frames with opcode lists aren't developed yet
-unfoldable pub without_opcodes_of : Dirs → Result Bool FrameFault
-without_opcodes_of dirs =
-    if lacks dirs OpcodeList1 && lacks dirs OpcodeList2 && lacks dirs OpcodeList3 then Ok true else Err NotYet
 
 -- the groups behind the first one
 unfoldable pub record_of : Dirs → Result Frame FrameFault
@@ -42,11 +21,13 @@ record_of dirs =
     and_then (form_of dirs) (λ form.
     and_then (segments_of dirs form.shape) (λ segments.
     and_then (pattern_of dirs) (λ cfa.
-    and_then (without_opcodes_of dirs) (λ _.
-    and_then (active_of dirs form.shape) (λ active.
+    and_then (listed_of dirs 1 form.shape) (λ first.
+    and_then (active_of dirs first.left) (λ active.
     and_then (levels_of dirs form.depth active) (λ levels.
-    and_then (large_enough active) (λ _.
-    and_then (crop_of dirs (height active) (width active)) (λ crop.
+    and_then (listed_of dirs 2 (area_shape active)) (λ second.
+    and_then (large_enough second.left) (λ _.
+    and_then (listed_of dirs 3 (coloured_shape second.left)) (λ third.
+    and_then (crop_of dirs third.left.rows third.left.cols) (λ crop.
     and_then (colour_of dirs) (λ colour.
     Ok (record {
       shape = form.shape;
@@ -55,11 +36,14 @@ record_of dirs =
       order = order_of dirs.bytes;
       segments = segments;
       cfa = cfa;
+      list1 = first.opcodes;
       active = active;
       levels = levels;
+      list2 = second.opcodes;
+      list3 = third.opcodes;
       crop = crop;
       colour = colour;
-    }))))))))))
+    }))))))))))))
 
 -- the frame of a file of at most 2^28 bytes
 unfoldable pub frame_of : List ℕ → Result Frame FrameFault

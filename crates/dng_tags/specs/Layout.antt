@@ -2,19 +2,17 @@
 -- "RowsPerStrip", "StripByteCounts", and section 15, "Tiled Images"). The limits are this project's own.
 use Rattle.std.specs.Prelude.{ℕ, ◌+◌, ◌-◌, ◌*◌, ◌/◌, ◌%◌, ◌^◌, ◌≤◌, nat_le, nat_lt, ◌&&◌, if◌then◌else◌, Bool, true, false, List, map, length, slice_index, Option, None, Some, Result, Ok, Err, unwrap_or, min}
 use Rattle.std.specs.List.{position, range_with_len}
-use Rattle.plane_view.specs.Rectangles.{height, width}
+use Rattle.plane_view.specs.Rectangles.{height}
 use Rattle.plane_view.specs.declared.Rect.{Rect}
 use Rattle.plane_view.specs.declared.Shape.{Shape}
-use Rattle.dng_tags.specs.Answers.{and_then}
-use Rattle.dng_tags.specs.Form.{required_number_of, required_numbers_of}
-use Rattle.dng_tags.specs.Values.{Dirs, number_of}
-use Rattle.dng_tags.specs.declared.faults.FrameFault.{FrameFault}
-use Rattle.dng_tags.specs.declared.faults.FrameFault.TheVariants.{Layout as LayoutFault, Outside}
+use Rattle.tag_rules.specs.Answers.{and_then}
+use Rattle.tag_rules.specs.Values.{Dirs, number_of, required_number_of, required_numbers_of}
+use Rattle.tag_rules.specs.declared.faults.FrameFault.{FrameFault}
+use Rattle.tag_rules.specs.declared.faults.FrameFault.TheVariants.{Layout as LayoutFault, Outside}
 use Rattle.dng_tags.specs.declared.layout.Cut.{Cut}
 use Rattle.dng_tags.specs.declared.layout.Layout.{Layout}
 use Rattle.dng_tags.specs.declared.record.Segment.{Segment}
-use Rattle.dng_tags.specs.declared.tags.Tag.{Tag}
-use Rattle.dng_tags.specs.declared.tags.Tag.TheVariants.{RowsPerStrip, StripByteCounts, StripOffsets, TileByteCounts, TileLength, TileOffsets, TileWidth}
+use Rattle.tag_rules.specs.declared.tags.Tag.TheVariants.{RowsPerStrip, StripByteCounts, StripOffsets, TileByteCounts, TileLength, TileOffsets, TileWidth}
 
 -- how many parts of a size make up a length, the last one maybe smaller
 abbrev pub parts : (length size : ℕ) → ℕ

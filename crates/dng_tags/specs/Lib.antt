@@ -1,16 +1,12 @@
-pub mod Answers
 pub mod Area
 pub mod Black
 pub mod Colours
 pub mod Facts
-pub mod FaultText
 pub mod Form
 pub mod Frame
 pub mod Layout
+pub mod Listed
 pub mod Origin
 pub mod Pattern
-pub mod Quantities
 pub mod Raw
 pub mod Span
-pub mod Tags
-pub mod Values

@@ -1,17 +1,17 @@
 -- The first group: a TIFF file of a DNG version that can be read, and the directory of its raw image (TIFF 6.0, section 2;
 -- DNG 1.6, chapter 4, "DNGVersion", "DNGBackwardVersion", "NewSubFileType"; Adobe's TIFF Technical Note 1, "SubIFDs").
 -- That the raw image is the first of directory 0 and its SubIFDs whose NewSubFileType is 0 is this project's own.
-use Rattle.std.specs.Prelude.{ℕ, ◌==◌, nat_lt, ◌&&◌, ◌||◌, if◌then◌else◌, Bool, List, [], ◌∷◌, slice_index, Option, None, Some, Result, Ok, Err, unwrap_or}
+use Rattle.std.specs.Prelude.{ℕ, ◌==◌, nat_lt, ◌&&◌, ◌||◌, if◌then◌else◌, Bool, List, [], ◌∷◌, slice_index, Result, Ok, Err}
 use Rattle.std.specs.Option.{option_map_or}
 use Rattle.tiff_dirs.specs.Header.{directory_of, first_directory, open_of}
 use Rattle.tiff_dirs.specs.declared.TiffFault.{TiffFault}
 use Rattle.tiff_dirs.specs.declared.TiffFault.TheVariants.{BadDirectory as BadDirectoryOfFile, NotTiff as NotTiffOfFile}
-use Rattle.dng_tags.specs.Answers.{and_then, or_refuse}
-use Rattle.dng_tags.specs.Values.{Dirs, numbers_at}
-use Rattle.dng_tags.specs.declared.faults.FrameFault.{FrameFault}
-use Rattle.dng_tags.specs.declared.faults.FrameFault.TheVariants.{BadDirectory, Newer, NoRaw, NotDng, NotTiff}
+use Rattle.tag_rules.specs.Answers.{and_then, or_refuse}
+use Rattle.tag_rules.specs.Values.{Dirs, numbers_at}
+use Rattle.tag_rules.specs.declared.faults.FrameFault.{FrameFault}
+use Rattle.tag_rules.specs.declared.faults.FrameFault.TheVariants.{BadDirectory, Newer, NoRaw, NotDng, NotTiff}
 use Rattle.dng_tags.specs.declared.origin.Version.{Version}
-use Rattle.dng_tags.specs.declared.tags.Tag.TheVariants.{DngBackwardVersion, DngVersion, NewSubfileType, SubIfds}
+use Rattle.tag_rules.specs.declared.tags.Tag.TheVariants.{DngBackwardVersion, DngVersion, NewSubfileType, SubIfds}
 
 -- what is wrong with a file or a directory, as a frame's fault
 abbrev pub as_refusal : TiffFault → FrameFault

@@ -3,12 +3,11 @@
 use Rattle.std.specs.Prelude.{ℕ, ◌==◌, ◌&&◌, if◌then◌else◌, Bool, true, List, [], ◌∷◌, slice_index, Result, Ok, Err}
 use Rattle.std.specs.List.{find}
 use Rattle.std.specs.Option.{option_map_or}
-use Rattle.dng_tags.specs.Answers.{and_then, or_refuse}
-use Rattle.dng_tags.specs.Form.{number_or, required_numbers_of}
-use Rattle.dng_tags.specs.Values.{Dirs, numbers_of}
-use Rattle.dng_tags.specs.declared.faults.FrameFault.{FrameFault}
-use Rattle.dng_tags.specs.declared.faults.FrameFault.TheVariants.{Cfa}
-use Rattle.dng_tags.specs.declared.tags.Tag.TheVariants.{CfaLayout, CfaPattern, CfaPlaneColor, CfaRepeatPatternDim}
+use Rattle.tag_rules.specs.Answers.{and_then, or_refuse}
+use Rattle.tag_rules.specs.Values.{Dirs, number_or, numbers_of, required_numbers_of}
+use Rattle.tag_rules.specs.declared.faults.FrameFault.{FrameFault}
+use Rattle.tag_rules.specs.declared.faults.FrameFault.TheVariants.{Cfa}
+use Rattle.tag_rules.specs.declared.tags.Tag.TheVariants.{CfaLayout, CfaPattern, CfaPlaneColor, CfaRepeatPatternDim}
 
 -- the patterns of 2 by 2, row by row: 0 is red, 1 green, 2 blue
 abbrev pub patterns : List (List ℕ)

@@ -11,10 +11,10 @@ use Rattle.strip_unpack.specs.Samples.{needed_bytes, unpacked}
 use Rattle.ljpeg_predict.specs.Decoded.{decoded}
 use Rattle.ljpeg_predict.specs.declared.JpegFault.{JpegFault}
 use Rattle.tiff_dirs.specs.declared.Order.{Order}
-use Rattle.dng_tags.specs.declared.faults.FrameFault.{FrameFault}
-use Rattle.dng_tags.specs.declared.faults.FrameFault.TheVariants.{Segment as SegmentRefused}
-use Rattle.dng_tags.specs.declared.faults.SegmentFault.{SegmentFault}
-use Rattle.dng_tags.specs.declared.faults.SegmentFault.TheVariants.{Jpeg, Short}
+use Rattle.tag_rules.specs.declared.faults.FrameFault.{FrameFault}
+use Rattle.tag_rules.specs.declared.faults.FrameFault.TheVariants.{Segment as SegmentRefused}
+use Rattle.tag_rules.specs.declared.faults.SegmentFault.{SegmentFault}
+use Rattle.tag_rules.specs.declared.faults.SegmentFault.TheVariants.{Jpeg, Short}
 use Rattle.dng_tags.specs.declared.record.Coding.{Coding}
 use Rattle.dng_tags.specs.declared.record.Coding.TheVariants.{LosslessJpeg, Packed}
 use Rattle.dng_tags.specs.declared.record.Frame.{Frame}

@@ -1,5 +1,5 @@
 -- Words for the search for the greatest black level, which only private contracts cite. This is this project's own.
-use Rattle.std.specs.Prelude.{◌≡◌, ℕ, ◌+◌, ◌*◌, ◌%◌, ◌<◌, ℤ, pos, ◌+ℤ◌, ◌≤ℤ◌, List, slice_index_or}
+use Rattle.std.specs.Prelude.{◌≡◌, ℕ, ◌+◌, ◌*◌, ◌%◌, ◌<◌, ℤ, pos, ◌+ℤ◌, ◌≤ℤ◌, slice_index_or}
 use Rattle.dng_tags.specs.Black.{black_at}
 use Rattle.dng_tags.specs.declared.record.Levels.{Levels}
 

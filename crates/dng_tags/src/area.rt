@@ -6,12 +6,10 @@ ghost use Rattle.plane_view.specs.Rectangles.{IsNonEmpty, LiesIn, height, whole_
 ghost use Rattle.tiff_dirs.specs.Numbers.{IsOf32Bits};
 ghost use Rattle.dng_tags.specs.Area.{IsBelow, active_of, crop_of, crop_rect, extent_in, extent_of, has_pixels, held_within, large_enough, rect_in, rest_of};
 ghost use Rattle.dng_tags.specs.Facts.{IsRawShape};
-ghost use Rattle.dng_tags.specs.Tags.{are_fractions, rule_of};
+ghost use Rattle.tag_rules.specs.Tags.{are_fractions, rule_of};
 
-use crate::faults::FrameFault;
-use crate::tags::Tag;
-use crate::values::{Directories, Fractions, Whole};
 use plane_view::{Rect, Shape};
+use tag_rules::{Directories, Fractions, FrameFault, Tag, Whole};
 
 /// A place or a size in whole pixels.
 #[derive(Clone, Copy, Debug, PartialEq, Eq)]
@@ -23,7 +21,7 @@ pub struct Extent {
 /// The fewest rows or columns of a plane that is demosaiced.
 const MIN_SIDE: u32 = 4;
 
-/// The active area, which is the whole image where nothing is told.
+/// The active area in the plane that list 1 leaves, which is the whole plane where nothing is told.
 ///
 /// # Errors
 ///
@@ -64,22 +62,21 @@ fn has_pixels(rect: Rect) -> bool
     rect.top < rect.bottom && rect.left < rect.right
 }
 
-/// An active area that is large enough to be demosaiced.
+/// A plane that is large enough to be demosaiced.
 ///
 /// # Errors
 ///
 /// `Size`.
 #[tactic(auto, unfolding(crate::specs::Area::large_enough))]
-pub fn check_large_enough(active: Rect) -> Result<Rect, FrameFault>
-    requires { IsNonEmpty active }
-    ensures answer { result ≡ large_enough active }
-    ensures rows { IfOk result (λ _. 4 ≤ height active) }
-    ensures cols { IfOk result (λ _. 4 ≤ width active) }
+pub fn check_large_enough(shape: Shape) -> Result<Shape, FrameFault>
+    ensures answer { result ≡ large_enough shape }
+    ensures rows { IfOk result (λ _. 4 ≤ shape.rows) }
+    ensures cols { IfOk result (λ _. 4 ≤ shape.cols) }
 {
-    if active.bottom - active.top < MIN_SIDE || active.right - active.left < MIN_SIDE {
+    if shape.rows < MIN_SIDE || shape.cols < MIN_SIDE {
         return Err(FrameFault::Size);
     }
-    Ok(active)
+    Ok(shape)
 }
 
 /// The default crop of a plane, which is the whole plane where nothing is told.

@@ -2,22 +2,19 @@
 
 ghost use Rattle.std.specs.Prelude.{◌≡◌, ◌-◌, ◌*◌, ◌≤◌, ◌<◌, ◌<ℤ◌, ◌⊎◌, ℕ, ℤ, pos, length, replicate, IfErr, IfOk, IsTrue, Ok, Some};
 ghost use Rattle.plane_view.specs.Rectangles.{IsNonEmpty, height, width};
-ghost use Rattle.dng_tags.specs.Answers.{Answers};
+ghost use Rattle.tag_rules.specs.Answers.{Answers};
 ghost use Rattle.dng_tags.specs.Black.{levels_of, levels_or, levels_under, repeat_in, repeat_of, spanning, table_of, white_of};
 ghost use Rattle.dng_tags.specs.Facts.{AreLevels};
-ghost use Rattle.dng_tags.specs.Quantities.{AreWithin, level_scale, on_scale};
-ghost use Rattle.dng_tags.specs.Tags.{are_fractions, rule_of};
-ghost use Rattle.dng_tags.specs.declared.faults.FrameFault.TheVariants.{Levels as LevelsFault, Memory as MemoryFault};
+ghost use Rattle.tag_rules.specs.Quantities.{AreWithin, level_scale, on_scale};
+ghost use Rattle.tag_rules.specs.Tags.{are_fractions, rule_of};
+ghost use Rattle.tag_rules.specs.declared.faults.FrameFault.TheVariants.{Levels as LevelsFault, Memory as MemoryFault};
 
-use crate::faults::FrameFault;
-use crate::quantities::LEVELS;
 use crate::record::Levels;
 use crate::span::span;
-use crate::tags::Tag;
-use crate::values::{Directories, Fractions, Whole};
 use lists::Items;
 use plane_view::Rect;
 use std::alloc::Global;
+use tag_rules::{Directories, Fractions, FrameFault, LEVELS, Tag, Whole};
 
 /// The most rows or columns of a pattern of black levels.
 const MAX_REPEAT: u32 = 8;
@@ -116,7 +113,6 @@ fn read_list(
 }
 
 // As many levels as are wanted.
-#[tactic(auto, unfolding(crate::specs::Quantities::on_scale))]
 fn levels_in(alloc: Global, fractions: &Fractions<'_>, count: u32) -> Result<Items<i32>, FrameFault>
     ensures answer { Answers result (levels_or count 0 (Some fractions.now)) }
     ensures within { IfOk result (AreWithin 16777216) }

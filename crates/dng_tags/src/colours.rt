@@ -6,14 +6,11 @@ ghost use Rattle.std.specs.List.{list_all};
 ghost use Rattle.tiff_dirs.specs.Numbers.{IsOf32Bits};
 ghost use Rattle.dng_tags.specs.Colours.{analog_of, calibration_of, colour_fault, colour_of, colours_in, gain_of, gains_in, gains_of, has_gain, has_zeros, is_diagonal, is_positive, is_zero, matrix_of};
 ghost use Rattle.dng_tags.specs.Facts.{AreColours, IsMatrix};
-ghost use Rattle.dng_tags.specs.Quantities.{AreWithin};
-ghost use Rattle.dng_tags.specs.Tags.{are_fractions, rule_of};
+ghost use Rattle.tag_rules.specs.Quantities.{AreWithin};
+ghost use Rattle.tag_rules.specs.Tags.{are_fractions, rule_of};
 
-use crate::faults::FrameFault;
-use crate::quantities::COLOURS;
 use crate::record::Colour;
-use crate::tags::Tag;
-use crate::values::{Directories, Fractions};
+use tag_rules::{COLOURS, Directories, Fractions, FrameFault, Tag};
 
 /// Ones in 65536ths.
 const ONES: [i32; 3] = [65536; 3];
@@ -64,7 +61,6 @@ fn colour_fault(tag: Tag) -> FrameFault
 }
 
 // The fractions of a colour tag in 65536ths.
-#[tactic(auto, unfolding(crate::specs::Quantities::on_scale))]
 fn read_entries<const N: usize>(tag: Tag, fractions: &Fractions<'_>) -> Result<[i32; N], FrameFault>
     requires { length fractions.now ≡ N }
     ensures answer { result ≡ colours_in tag fractions.now }

@@ -1,14 +1,12 @@
 //! The second group: what kind of image it is.
 
-ghost use Rattle.std.specs.Prelude.{◌≡◌, ◌≤◌, length, IfOk, IsTrue};
+ghost use Rattle.std.specs.Prelude.{◌≡◌, ◌≤◌, IfOk, IsTrue};
 ghost use Rattle.dng_tags.specs.Facts.{IsRawShape};
-ghost use Rattle.dng_tags.specs.Form.{depth_of, form_of, format_of, lossless_of, number_or, photometric_of, required_number_of, required_numbers_of, samples_per_pixel_of, shape_of, side_of};
-ghost use Rattle.dng_tags.specs.Tags.{are_whole, rule_of};
+ghost use Rattle.dng_tags.specs.Form.{depth_of, form_of, format_of, lossless_of, photometric_of, samples_per_pixel_of, shape_of, side_of};
+ghost use Rattle.tag_rules.specs.Tags.{are_whole, rule_of};
 
-use crate::faults::FrameFault;
-use crate::tags::Tag;
-use crate::values::{Directories, Whole};
 use plane_view::Shape;
+use tag_rules::{Directories, FrameFault, Tag};
 
 /// The value of PhotometricInterpretation for a colour filter array.
 const COLOUR_FILTER_ARRAY: u32 = 32803;
@@ -34,48 +32,6 @@ pub struct Form {
     /// The bits of a sample, 8 to 16.
     pub depth: u32,
     pub shape: Shape,
-}
-
-impl<'a> Directories<'a> {
-    /// The number of a tag that has to be there.
-    #[tactic(auto, unfolding(crate::specs::Form::required_number_of))]
-    pub fn required_number(&self, tag: Tag) -> Result<u32, FrameFault>
-        requires whole { IsTrue (are_whole (rule_of tag).kinds) }
-        requires some { 1 ≤ (rule_of tag).fewest }
-        ensures { result ≡ required_number_of self.now tag }
-    {
-        match self.number(tag)? {
-            Some(number) => Ok(number),
-            None => Err(FrameFault::BadEntry {
-                tag: tag.rule().number,
-            }),
-        }
-    }
-
-    /// The numbers of a tag that has to be there.
-    #[tactic(auto, unfolding(crate::specs::Form::required_numbers_of))]
-    pub fn required_whole(&self, tag: Tag) -> Result<Whole<'a>, FrameFault>
-        requires { IsTrue (are_whole (rule_of tag).kinds) }
-        ensures answer { result ≡ required_numbers_of self.now tag }
-        ensures counts { IfOk result (λ xs. ((rule_of tag).fewest ≤ length xs) × (length xs ≤ (rule_of tag).most)) }
-    {
-        match self.whole(tag)? {
-            Some(numbers) => Ok(numbers),
-            None => Err(FrameFault::BadEntry {
-                tag: tag.rule().number,
-            }),
-        }
-    }
-
-    /// The number of a tag, or its default.
-    #[tactic(auto, unfolding(crate::specs::Form::number_or))]
-    pub fn number_or(&self, tag: Tag, default: u32) -> Result<u32, FrameFault>
-        requires whole { IsTrue (are_whole (rule_of tag).kinds) }
-        requires some { 1 ≤ (rule_of tag).fewest }
-        ensures { result ≡ number_or self.now tag default }
-    {
-        Ok(self.number(tag)?.unwrap_or(default))
-    }
 }
 
 /// What kind of image it is.

@@ -1,22 +1,21 @@
 //! The frame's record, group by group.
 
 ghost use Rattle.std.specs.Prelude.{◌≡◌, ◌≤◌, ◌^◌, length, IfOk};
-ghost use Rattle.dng_tags.specs.Answers.{Answers};
+ghost use Rattle.tag_rules.specs.Answers.{Answers};
 ghost use Rattle.dng_tags.specs.Facts.{IsFrame};
-ghost use Rattle.dng_tags.specs.Frame.{frame_of, record_of, without_opcodes_of};
+ghost use Rattle.dng_tags.specs.Frame.{frame_of, record_of};
 
 use crate::area::{check_large_enough, read_active, read_crop};
 use crate::black::read_levels;
 use crate::colours::read_colour;
-use crate::faults::FrameFault;
 use crate::form::read_form;
 use crate::layout::read_segments;
+use crate::listed::{area_shape, coloured_shape, read_listed};
 use crate::origin::{open, read_origin};
 use crate::pattern::read_pattern;
 use crate::record::Frame;
-use crate::tags::Tag;
-use crate::values::Directories;
 use std::alloc::Global;
+use tag_rules::{Directories, FrameFault};
 
 /// The bytes of the longest file that is read.
 pub const MAX_BYTES: u64 = 1 << 28;
@@ -27,8 +26,8 @@ pub const MAX_BYTES: u64 = 1 << 28;
 ///
 /// The first refusal, group by group: the file and its directories (`NotTiff`, `BadDirectory`, `NotDng`, `Newer`,
 /// `NoRaw`), the form (`Photometric`, `Compression`, `Samples`, `Depth`, `Format`, `Size`), the segments (`Layout`,
-/// `Outside`), the pattern (`Cfa`), opcode lists (`NotYet`), the active area (`Active`), the levels (`Levels`), the
-/// size at demosaicing (`Size`), the crop (`Crop`), the colours (`Colour`). In each of them a tag may be refused as
+/// `Outside`), the pattern (`Cfa`), opcode list 1 (`Opcode`, `Trim`), the active area (`Active`), the levels (`Levels`), opcode
+/// list 2, the size at demosaicing (`Size`), opcode list 3, the crop (`Crop`), the colours (`Colour`). In each of them a tag may be refused as
 /// `FloatTag` or `BadEntry`. `Memory` where there was none for the lists.
 #[tactic(auto, unfolding(crate::specs::Frame::frame_of))]
 pub fn read_frame(alloc: Global, bytes: &[u8]) -> Result<Frame, FrameFault>
@@ -50,11 +49,13 @@ fn read_record(alloc: Global, dirs: &Directories<'_>) -> Result<Frame, FrameFaul
     let form = read_form(dirs)?;
     let segments = read_segments(alloc, dirs, form.shape)?;
     let cfa = read_pattern(dirs)?;
-    check_opcodes(dirs)?;
-    let active = read_active(dirs, form.shape)?;
+    let first = read_listed(alloc, dirs, 1, form.shape)?;
+    let active = read_active(dirs, first.left)?;
     let levels = read_levels(alloc, dirs, form.depth, active)?;
-    check_large_enough(active)?;
-    let crop = read_crop(dirs, active.bottom - active.top, active.right - active.left)?;
+    let second = read_listed(alloc, dirs, 2, area_shape(active))?;
+    check_large_enough(second.left)?;
+    let third = read_listed(alloc, dirs, 3, coloured_shape(second.left))?;
+    let crop = read_crop(dirs, third.left.rows, third.left.cols)?;
     let colour = read_colour(dirs)?;
     Ok(Frame {
         shape: form.shape,
@@ -63,24 +64,12 @@ fn read_record(alloc: Global, dirs: &Directories<'_>) -> Result<Frame, FrameFaul
         order: dirs.order(),
         segments,
         cfa,
+        list1: first.opcodes,
         active,
         levels,
+        list2: second.opcodes,
+        list3: third.opcodes,
         crop,
         colour,
     })
-}
-
-// Frames with opcode lists aren't developed yet.
-#[tactic(auto, unfolding(crate::specs::Frame::without_opcodes_of))]
-fn check_opcodes(dirs: &Directories<'_>) -> Result<bool, FrameFault>
-    ensures { result ≡ without_opcodes_of dirs.now }
-{
-    if dirs.lacks(Tag::OpcodeList1)
-        && dirs.lacks(Tag::OpcodeList2)
-        && dirs.lacks(Tag::OpcodeList3)
-    {
-        Ok(true)
-    } else {
-        Err(FrameFault::NotYet)
-    }
 }

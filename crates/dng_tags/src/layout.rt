@@ -3,17 +3,15 @@
 ghost use Rattle.std.specs.Prelude.{◌≡◌, ◌*◌, ◌<◌, ◌≤◌, length, IfNone, IfOk, IfSome, Ok};
 ghost use Rattle.std.specs.List.{position};
 ghost use Rattle.plane_view.specs.Rectangles.{height, width};
-ghost use Rattle.dng_tags.specs.Answers.{Answers};
+ghost use Rattle.tag_rules.specs.Answers.{Answers};
 ghost use Rattle.dng_tags.specs.Facts.{AreParts, IsRawShape, LieWithin};
 ghost use Rattle.dng_tags.specs.Layout.{HasSides, IsChecked, checked_layout, checked_tile_side, layout_of, parts, passes_end, rect_at, segment_at, segment_count, segments_across, segments_in, segments_of, strip_rows_of, strips_of, tiles_of};
 
-use crate::faults::FrameFault;
 use crate::record::Segment;
-use crate::tags::Tag;
-use crate::values::{Directories, Whole};
 use lists::Items;
 use plane_view::{Rect, Shape};
 use std::alloc::Global;
+use tag_rules::{Directories, FrameFault, Tag, Whole};
 
 /// The most rows or columns of a tile.
 const MAX_TILE_SIDE: u32 = 16384;

@@ -4,21 +4,18 @@
 mod area;
 mod black;
 mod colours;
-mod faults;
 mod form;
 mod frame;
 mod layout;
+mod listed;
 mod origin;
 mod pattern;
-mod quantities;
 mod record;
 mod span;
-mod tags;
 #[cfg(test)]
 mod tests;
-mod values;
 
-pub use faults::{FrameFault, MAX_FAULT_TEXT, SegmentFault};
 pub use frame::{MAX_BYTES, read_frame};
 pub use record::{Coding, Colour, Frame, Levels, Segment};
 pub use span::greatest_black;
+pub use tag_rules::{FrameFault, MAX_FAULT_TEXT, SegmentFault};

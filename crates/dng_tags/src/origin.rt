@@ -3,9 +3,7 @@
 ghost use Rattle.std.specs.Prelude.{◌≡◌, ◌<◌, length, IfOk};
 ghost use Rattle.dng_tags.specs.Origin.{first_raw, is_newer, needed_version_of, origin_of, raw_directory_of, refusing, subfile_type_at, tiff_of, version_in, version_of};
 
-use crate::faults::FrameFault;
-use crate::tags::Tag;
-use crate::values::{Directories, Whole, whole_in};
+use tag_rules::{Directories, FrameFault, Tag, Whole, whole_in};
 use tiff_dirs::{Dir, Tiff, TiffFault};
 
 /// The first two numbers of a DNG version.

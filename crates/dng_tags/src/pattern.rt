@@ -4,9 +4,7 @@ ghost use Rattle.std.specs.Prelude.{◌≡◌, ◌≤◌, length, IfOk, IfSome, 
 ghost use Rattle.std.specs.List.{Contains, find};
 ghost use Rattle.dng_tags.specs.Pattern.{are_red_green_blue, colours_of, has_plane_colours, has_square_layout, is_same_pattern, pattern_of, pattern_size_of, patterns};
 
-use crate::faults::FrameFault;
-use crate::tags::Tag;
-use crate::values::{Directories, Whole};
+use tag_rules::{Directories, FrameFault, Tag, Whole};
 
 /// The patterns of 2 by 2 that are accepted, row by row: 0 is red, 1 green, 2 blue.
 const PATTERNS: [[u8; 4]; 4] = [[0, 1, 1, 2], [2, 1, 1, 0], [1, 0, 2, 1], [1, 2, 0, 1]];

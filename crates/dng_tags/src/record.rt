@@ -1,6 +1,7 @@
 //! The record of a frame.
 
 use lists::Items;
+use opcode_list::Opcode;
 use plane_view::{Rect, Shape};
 use tiff_dirs::Order;
 
@@ -19,11 +20,17 @@ pub struct Frame {
     pub segments: Items<Segment>,
     /// The colours of the pattern of 2 by 2 in the active area, row by row: 0 is red, 1 green, 2 blue.
     pub cfa: [u8; 4],
-    /// The active area in the raw image, at least 4 by 4.
+    /// The opcodes of list 1, which find the raw image.
+    pub list1: Items<Opcode>,
+    /// The active area in the plane that list 1 leaves.
     pub active: Rect,
     /// How samples become linear values.
     pub levels: Levels,
-    /// The default crop, in the plane of the active area.
+    /// The opcodes of list 2, which find the linear values of the active area. They leave at least 4 by 4 pixels.
+    pub list2: Items<Opcode>,
+    /// The opcodes of list 3, which find the three colours of each pixel.
+    pub list3: Items<Opcode>,
+    /// The default crop, in the plane that list 3 leaves.
     pub crop: Rect,
     /// The camera's colours.
     pub colour: Colour,

@@ -3,6 +3,7 @@
 use super::*;
 use lists::Items;
 use ljpeg_predict::JpegFault;
+use opcode_list::OpcodeFault;
 use std::alloc::{AllocError, Global};
 use std::test::Fail;
 use test_frames::{TestFrame, bright_red, flat};
@@ -14,6 +15,7 @@ use tiff_write::{Field, Value};
 #[derive(Clone, Copy)]
 enum Told {
     Bytes(&'static [u8]),
+    Undefined(&'static [u8]),
     Shorts(&'static [u16]),
     Longs(&'static [u32]),
     Fractions(&'static [(u32, u32)]),
@@ -25,12 +27,20 @@ enum Told {
 }
 
 use FrameFault as F;
-use Told::{Bytes, Fractions, Gone, Longs, Odd, Shorts, Signed};
+use Told::{Bytes, Fractions, Gone, Longs, Odd, Shorts, Signed, Undefined};
+
+// An entry of type UNDEFINED.
+fn undefined(alloc: Global, tag: u16, bytes: &[u8]) -> Result<Field, AllocError> {
+    let mut field = Field::bytes(alloc, tag, bytes)?;
+    field.kind = 7;
+    Ok(field)
+}
 
 impl Told {
     fn field(self, alloc: Global, tag: u16) -> Result<Field, AllocError> {
         match self {
             Bytes(bytes) => Field::bytes(alloc, tag, bytes),
+            Undefined(bytes) => undefined(alloc, tag, bytes),
             Shorts(numbers) => Field::shorts(alloc, tag, numbers),
             Longs(numbers) => Field::longs(alloc, tag, numbers),
             Fractions(fractions) => Field::rationals(alloc, tag, fractions),
@@ -49,7 +59,7 @@ impl Told {
 // Changes of entries, and the refusal of the frame.
 type Row = (&'static [(u16, Told)], FrameFault);
 
-static FIRST_STEPS: [Row; 37] = [
+static FIRST_STEPS: [Row; 34] = [
     (&[(50706, Gone)], F::NotDng),
     (&[(50706, Bytes(&[1, 4, 0]))], F::BadEntry { tag: 50706 }),
     (&[(50706, Bytes(&[1, 7, 0, 0]))], F::Newer),
@@ -91,9 +101,6 @@ static FIRST_STEPS: [Row; 37] = [
     (&[(256, Shorts(&[0]))], F::Size),
     (&[(257, Shorts(&[8193]))], F::Size),
     (&[(256, Shorts(&[8192])), (257, Shorts(&[8192]))], F::Size),
-    (&[(51008, Odd(11, 1))], F::NotYet),
-    (&[(51009, Odd(7, 0))], F::NotYet),
-    (&[(51022, Odd(7, 4))], F::NotYet),
     (&[(50829, Shorts(&[0, 0, 4, 5]))], F::Active),
     (&[(50829, Shorts(&[2, 0, 2, 4]))], F::Active),
     (&[(50829, Shorts(&[0, 0, 4]))], F::Active),
@@ -174,6 +181,70 @@ static SEGMENTS: [Row; 24] = [
     (&[(50711, Shorts(&[2]))], F::Cfa),
 ];
 
+// Opcode lists of a count and whole opcodes: an ID, a DNG version, flags, how many bytes of parameters, the parameters.
+static EMPTY_LIST: [u8; 4] = [0, 0, 0, 0];
+
+static WARP: [u8; 20] = [0, 0, 0, 1, 0, 0, 0, 1, 1, 3, 0, 0, 0, 0, 0, 0, 0, 0, 0, 0];
+
+// A TrimBounds of rows 0 to 5 and columns 0 to 4, behind an optional WarpRectilinear.
+static LOW_TRIM: [u8; 52] = [
+    0, 0, 0, 2, 0, 0, 0, 1, 1, 3, 0, 0, 0, 0, 0, 1, 0, 0, 0, 0, 0, 0, 0, 6, 1, 3, 0, 0, 0, 0, 0, 0,
+    0, 0, 0, 16, 0, 0, 0, 0, 0, 0, 0, 0, 0, 0, 0, 5, 0, 0, 0, 4,
+];
+
+// A TrimBounds of rows 0 to 3 and columns 0 to 4, twice: the second finds three rows.
+static SMALL_TRIMS: [u8; 68] = [
+    0, 0, 0, 2, 0, 0, 0, 6, 1, 3, 0, 0, 0, 0, 0, 0, 0, 0, 0, 16, 0, 0, 0, 0, 0, 0, 0, 0, 0, 0, 0,
+    3, 0, 0, 0, 4, 0, 0, 0, 6, 1, 3, 0, 0, 0, 0, 0, 0, 0, 0, 0, 16, 0, 0, 0, 0, 0, 0, 0, 0, 0, 0,
+    0, 3, 0, 0, 0, 4,
+];
+
+static OPCODE_LISTS: [Row; 11] = [
+    (&[(51008, Odd(11, 1))], F::FloatTag { tag: 51008 }),
+    (&[(51009, Bytes(&EMPTY_LIST))], F::BadEntry { tag: 51009 }),
+    (
+        &[(51022, Undefined(&[]))],
+        F::Opcode {
+            list: 3,
+            fault: OpcodeFault::Truncated { index: 0 },
+        },
+    ),
+    (
+        &[(51009, Undefined(&[255, 255, 255, 255]))],
+        F::Opcode {
+            list: 2,
+            fault: OpcodeFault::TooMany,
+        },
+    ),
+    (
+        &[(51022, Undefined(&WARP))],
+        F::Opcode {
+            list: 3,
+            fault: OpcodeFault::Unknown { index: 0, id: 1 },
+        },
+    ),
+    (
+        &[(51008, Undefined(&LOW_TRIM))],
+        F::Trim { list: 1, index: 1 },
+    ),
+    (
+        &[(51009, Undefined(&LOW_TRIM))],
+        F::Trim { list: 2, index: 1 },
+    ),
+    (
+        &[(51022, Undefined(&LOW_TRIM))],
+        F::Trim { list: 3, index: 1 },
+    ),
+    // The active area is the whole of what list 1 leaves.
+    (&[(51008, Undefined(&SMALL_TRIMS))], F::Size),
+    (&[(51009, Undefined(&SMALL_TRIMS))], F::Size),
+    // List 3 comes behind the size, and before the crop.
+    (
+        &[(51022, Undefined(&SMALL_TRIMS)), (50719, Shorts(&[0, 3]))],
+        F::Crop,
+    ),
+];
+
 static LEVELS_AND_CROP: [Row; 24] = [
     (&[(50712, Shorts(&[]))], F::Levels),
     (&[(50712, Longs(&[5]))], F::BadEntry { tag: 50712 }),
@@ -252,6 +323,10 @@ fn first_steps() -> &'static [Row] {
     &FIRST_STEPS
 }
 
+fn opcode_lists() -> &'static [Row] {
+    &OPCODE_LISTS
+}
+
 fn segments_and_pattern() -> &'static [Row] {
     &SEGMENTS
 }
@@ -308,6 +383,7 @@ fn refuses(rt: HostRuntime) -> Result<(), Fail> {
     let alloc = rt.alloc();
     assert_eq!(rt; first_wrong(alloc, first_steps())?, None);
     assert_eq!(rt; first_wrong(alloc, segments_and_pattern())?, None);
+    assert_eq!(rt; first_wrong(alloc, opcode_lists())?, None);
     assert_eq!(rt; first_wrong(alloc, levels_and_crop())?, None);
     assert_eq!(rt; first_wrong(alloc, colours())?, None);
     assert!(rt; is_refused(read(alloc, b""), F::NotTiff));
@@ -454,6 +530,19 @@ fn tells_faults(rt: HostRuntime) {
     };
     let why = SegmentFault::Short(short);
     assert!(rt; says(F::Segment { segment: 0, why }, b"Segment 0 Short 32 31"));
+    let fault = OpcodeFault::Unknown { index: 0, id: 1 };
+    assert!(rt; says(F::Opcode { list: 3, fault }, b"Opcode 3 Unknown 0 1"));
+    let fault = OpcodeFault::BadParams {
+        index: 15,
+        id: u32::MAX,
+    };
+    assert!(rt;
+        says(
+            F::Opcode { list: 1, fault },
+            b"Opcode 1 BadParams 15 4294967295"
+        )
+    );
+    assert!(rt; says(F::Trim { list: 2, index: 0 }, b"Trim 2 0"));
     let why = SegmentFault::Jpeg(JpegFault::NoStart);
     assert!(rt; says(F::Segment { segment: 7, why }, b"Segment 7 Jpeg NoStart"));
     let why = SegmentFault::Jpeg(JpegFault::NotLossless { marker: 192 });

@@ -4,8 +4,8 @@ use Rattle.binary_digits.specs.Digits.{bits_of, number_of}
 use Rattle.plane_view.specs.Plane.{samples_of}
 use Rattle.strip_unpack.specs.Samples.{file_order, row_sample, unpacked}
 use Rattle.tiff_dirs.specs.declared.Order.TheVariants.{Big, Little}
-use Rattle.dng_tags.specs.declared.faults.FrameFault.TheVariants.{Segment as SegmentRefused}
-use Rattle.dng_tags.specs.declared.faults.SegmentFault.TheVariants.{Short}
+use Rattle.tag_rules.specs.declared.faults.FrameFault.TheVariants.{Segment as SegmentRefused}
+use Rattle.tag_rules.specs.declared.faults.SegmentFault.TheVariants.{Short}
 use Rattle.dng_tags.specs.declared.record.Coding.TheVariants.{Packed}
 use Rattle.dng_tags.specs.declared.record.Segment.{Segment}
 use Rattle.dng_tags.specs.Raw.{fault_from, raw_sample, samples_in, segments_plane}

@@ -16,7 +16,7 @@ use Rattle.stage_core.specs.Planes.{IsPart, IsPlane}
 use Rattle.stage_core.proofs.CellLemmas.{any_at}
 use Rattle.dng_tags.specs.Facts.{AreParts, IsFrame, IsPart as IsPartOf}
 use Rattle.dng_tags.specs.Raw.{coded_count, coded_place, coded_samples, coding_of, raw_sample, samples_in, segments_plane}
-use Rattle.dng_tags.specs.declared.faults.SegmentFault.{SegmentFault}
+use Rattle.tag_rules.specs.declared.faults.SegmentFault.{SegmentFault}
 use Rattle.dng_tags.specs.declared.record.Coding.{Coding}
 use Rattle.dng_tags.specs.declared.record.Coding.TheVariants.{LosslessJpeg, Packed}
 use Rattle.dng_tags.specs.declared.record.Frame.{Frame}

@@ -6,7 +6,7 @@ use Rattle.std.proofs.lemmas.List.{drop_all}
 use Rattle.std.proofs.lemmas.Option.{get_or_from_slice_get}
 use Rattle.dng_tags.specs.Raw.{fault_from, refused_or, samples_in, segment_fault}
 use Rattle.dng_tags.proofs.RawLemmas.{fault_from-cons, fault_from-nil}
-use Rattle.dng_tags.specs.declared.faults.SegmentFault.{SegmentFault}
+use Rattle.tag_rules.specs.declared.faults.SegmentFault.{SegmentFault}
 use Rattle.dng_tags.specs.declared.record.Coding.{Coding}
 use Rattle.dng_tags.specs.declared.record.Segment.{Segment}
 use Rattle.frame_segments.specs.Buffers.{told}

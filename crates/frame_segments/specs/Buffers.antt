@@ -6,7 +6,7 @@ use Rattle.plane_view.specs.Shapes.{IsShape, max_samples, max_side}
 use Rattle.plane_view.specs.declared.Shape.{Shape}
 use Rattle.stage_core.specs.Bases.{AreCells}
 use Rattle.dng_tags.specs.Raw.{coded_count, samples_in, segment_fault}
-use Rattle.dng_tags.specs.declared.faults.SegmentFault.{SegmentFault}
+use Rattle.tag_rules.specs.declared.faults.SegmentFault.{SegmentFault}
 use Rattle.dng_tags.specs.declared.record.Coding.{Coding}
 use Rattle.dng_tags.specs.declared.record.Coding.TheVariants.{LosslessJpeg, Packed}
 use Rattle.dng_tags.specs.declared.record.Segment.{Segment}

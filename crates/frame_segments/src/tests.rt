@@ -281,9 +281,6 @@ fn opened(alloc: Global, case: &Case) -> Result<(u64, u32), FrameFault> {
         return Err(FrameFault::TooLong);
     }
     let frame = read_frame(alloc, case.bytes)?;
-    if frame.lossless {
-        return Err(FrameFault::NotYet);
-    }
     let mut segments = Segments::open(alloc, case.bytes, &frame)?;
     match fetched::<Segments<'_>, Brand>(alloc, &mut segments, case, Blank::new(1)) {
         Ok(counts) => Ok(counts),

@@ -1,7 +1,7 @@
 -- Black levels of an area, in 256ths: this project's own.
 use Rattle.std.specs.Prelude.{◌≡◌, ℕ, ◌+◌, ◌*◌, ◌/◌, ◌%◌, ◌≤◌, ℤ, pos, ◌+ℤ◌, List, length, map, slice_index_or}
 use Rattle.std.specs.List.{range_with_len}
-use Rattle.dng_tags.specs.Quantities.{AreWithin}
+use Rattle.tag_rules.specs.Quantities.{AreWithin}
 
 -- the numbers of an area of this many rows and columns, row by row
 unfoldable pub area_of : (rows cols : ℕ) → (ℕ → ℕ → ℤ) → List ℤ

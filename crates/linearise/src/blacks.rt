@@ -3,7 +3,7 @@
 ghost use Rattle.std.specs.Prelude.{◌≡◌, ℕ, ◌+◌, ◌-◌, ◌*◌, ◌/◌, ◌%◌, ◌<◌, ◌≤◌, ◌↔◌, pos, ◌+ℤ◌, length, slice_index_or, IfOk, IsTrue};
 ghost use Rattle.dng_tags.specs.Black.{black_at};
 ghost use Rattle.dng_tags.specs.Facts.{AreDeltas, AreRanged, IsBlackPattern};
-ghost use Rattle.dng_tags.specs.Quantities.{AreWithin, IsWithin};
+ghost use Rattle.tag_rules.specs.Quantities.{AreWithin, IsWithin};
 ghost use Rattle.dng_tags.specs.Span.{across_at};
 ghost use Rattle.linearise.specs.Blacks.{AreBlacks, area_of, black_by};
 

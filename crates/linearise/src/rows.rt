@@ -1,7 +1,7 @@
 //! Rows of linear values.
 
 ghost use Rattle.std.specs.Prelude.{◌≡◌, ◌*◌, ◌<◌, pos, ◌+ℤ◌, ◌-ℤ◌, length, IsTrue};
-ghost use Rattle.dng_tags.specs.Quantities.{AreWithin, IsWithin};
+ghost use Rattle.tag_rules.specs.Quantities.{AreWithin, IsWithin};
 ghost use Rattle.linearise.specs.Rows.{IsLinearTo, IsTabled};
 
 use crate::scale::Scale;

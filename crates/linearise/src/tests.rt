@@ -3,7 +3,7 @@
 
 ghost use Rattle.std.specs.Prelude.{◌≡◌, ◌<◌, ◌⊎◌, IsTrue};
 ghost use Rattle.dng_tags.specs.Facts.{AreDeltas, AreRanged, IsBlackPattern};
-ghost use Rattle.dng_tags.specs.Quantities.{AreWithin};
+ghost use Rattle.tag_rules.specs.Quantities.{AreWithin};
 
 use super::*;
 use dng_tags::Levels;

@@ -74,7 +74,7 @@ pub enum OpcodeFault {
 impl OpcodeFault {
     /// Appends the fault's name, and its numbers in decimal, each after a space.
     pub fn say(&self, line: &mut Line)
-        requires { length line.old ≤ 64 }
+        requires { length line.old + 51 ≤ 128 }
         ensures text { line.new ≡ line.old ++ fault_text self.now }
         ensures within { length line.new ≤ length line.old + 51 }
     {
@@ -95,7 +95,7 @@ impl OpcodeFault {
 
 /// Appends a fault's name and its opcode.
 fn say_opcode(name: &[u8], index: u32, id: u32, line: &mut Line)
-    requires room { length line.old ≤ 64 }
+    requires room { length line.old + 51 ≤ 128 }
     requires short { length name.now ≤ 9 }
     ensures text { line.new ≡ line.old ++ (name.now ++ 32 ∷ decimal index ++ 32 ∷ decimal id) }
     ensures within { length line.new ≤ length line.old + 51 }

@@ -1,6 +1,6 @@
 use Rattle.std.proofs.Common.{get_or, pos, arith}
 use Rattle.dng_tags.specs.Colours.{gain_of}
-use Rattle.dng_tags.proofs.ListLemmas.{map_by_all}
+use Rattle.tag_rules.proofs.ListLemmas.{map_by_all}
 use Rattle.dng_tags.proofs.colours.fill_gains.Goals as goal
 
 pub returns-clause-gains : goal.returns-clause-gains

@@ -1,4 +1,4 @@
-use Rattle.std.proofs.Common.{◌≡◌, ℕ, ◌+◌, ℤ, pos, arith, subst, sym, ◌∙◌, ap, min}
+use Rattle.std.proofs.Common.{◌≡◌, ◌+◌, ℤ, arith, subst, sym, ◌∙◌, ap, min}
 use Rattle.std.specs.Int.{w64, cast_signed, cast_unsigned, int_max}
 use Rattle.std.proofs.lemmas.Int.{ints, clamps}
 use Rattle.dng_tags.specs.Span.{FallsBefore, IsGreatestBlack}

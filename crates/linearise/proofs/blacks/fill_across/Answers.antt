@@ -1,7 +1,7 @@
 use Rattle.std.proofs.Common.{◌≡◌, ℕ, ◌<◌, ◌/◌, ◌%◌, pos, get_or, set, to_z, of_z, length, arith, below_more, subst, sym, ◌≢◌, get_or-set_other, get_or-set_same, ◌∙◌}
 use Rattle.std.specs.Int.{w32}
 use Rattle.std.proofs.lemmas.Int.{ints}
-use Rattle.dng_tags.specs.Quantities.{IsWithin}
+use Rattle.tag_rules.specs.Quantities.{IsWithin}
 use Rattle.dng_tags.specs.Span.{across_at}
 use Rattle.linearise.proofs.blacks.fill_across.Goals as goal
 

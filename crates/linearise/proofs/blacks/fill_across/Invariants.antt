@@ -1,5 +1,5 @@
 use Rattle.std.proofs.Common.{◌≡◌, ℕ, ◌/◌, ◌%◌, ◌<◌, pos, get_or}
-use Rattle.dng_tags.specs.Quantities.{IsWithin}
+use Rattle.tag_rules.specs.Quantities.{IsWithin}
 use Rattle.dng_tags.specs.Span.{across_at}
 use Rattle.linearise.proofs.blacks.fill_across.Given as goal
 

@@ -1,5 +1,5 @@
 use Rattle.std.proofs.Common.{ℕ, ◌<◌, pos, get_or}
-use Rattle.dng_tags.specs.Quantities.{IsWithin}
+use Rattle.tag_rules.specs.Quantities.{IsWithin}
 use Rattle.linearise.proofs.tests.are_within.Given as goal
 
 abbrev pub invariant-loop-level : goal.invariant-loop-level

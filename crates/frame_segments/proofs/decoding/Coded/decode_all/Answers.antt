@@ -2,7 +2,7 @@ use Rattle.std.proofs.Common.{◌≡◌, ℕ, List, None, Result, get_or, inl, i
 use Rattle.std.specs.Result.{result_err}
 use Rattle.std.proofs.lemmas.Bool.{cases_lt}
 use Rattle.std.proofs.lemmas.Option.{slice_get-get_or, slice_get_within}
-use Rattle.dng_tags.specs.declared.faults.SegmentFault.{SegmentFault}
+use Rattle.tag_rules.specs.declared.faults.SegmentFault.{SegmentFault}
 use Rattle.dng_tags.specs.declared.record.Segment.{Segment}
 use Rattle.frame_segments.specs.Buffers.{Holds, IsDecodable}
 use Rattle.frame_segments.proofs.SegmentLemmas.{decodable, next_fault, no_fault_left, same_element}

@@ -1,6 +1,0 @@
-use Rattle.std.proofs.Common.{sym, ◌∙◌, ap, length}
-use Rattle.dng_tags.proofs.ValuesLemmas.{length_fractions_in}
-use Rattle.dng_tags.proofs.values.Fractions.len.Goals as goal
-
-pub returns : goal.returns
-returns c = sym (length_fractions_in _ _) ∙ ap length c.self.view_is

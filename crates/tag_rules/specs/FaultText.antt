@@ -1,0 +1,48 @@
+-- A fault in words and numbers, as a line says it: its name, and its fields in decimal, each after one space. This is this
+-- project's own.
+use Rattle.std.specs.Prelude.{ℕ, List, ◌∷◌, ◌++◌, codes, decimal}
+use Rattle.ljpeg_predict.specs.Faults.{jpeg_fault_text}
+use Rattle.opcode_list.specs.Faults.{fault_text as opcode_fault_text}
+use Rattle.tag_rules.specs.declared.faults.FrameFault.{FrameFault}
+use Rattle.tag_rules.specs.declared.faults.FrameFault.TheVariants.{NotTiff, BadDirectory, BadEntry, FloatTag, NotDng, Newer, NoRaw, Photometric, Compression, Depth, Samples, Size, Layout, Outside, Cfa, Levels, Active, Colour, Crop, Segment, TooLong, Format, Opcode, Trim, Memory}
+use Rattle.tag_rules.specs.declared.faults.SegmentFault.{SegmentFault}
+use Rattle.tag_rules.specs.declared.faults.SegmentFault.TheVariants.{Jpeg, Short}
+
+-- a field
+abbrev pub field : ℕ → List ℕ
+field n = 32 ∷ decimal n
+
+-- a name with a field
+abbrev pub named : List ℕ → ℕ → List ℕ
+named name n = name ++ field n
+
+abbrev pub segment_fault_text : SegmentFault → List ℕ
+segment_fault_text (Short short) = codes "Short" ++ field short.needed ++ field short.had
+segment_fault_text (Jpeg fault) = codes "Jpeg" ++ 32 ∷ jpeg_fault_text fault
+
+abbrev pub fault_text : FrameFault → List ℕ
+fault_text NotTiff = codes "NotTiff"
+fault_text (BadDirectory at) = named (codes "BadDirectory") at
+fault_text (BadEntry tag) = named (codes "BadEntry") tag
+fault_text (FloatTag tag) = named (codes "FloatTag") tag
+fault_text NotDng = codes "NotDng"
+fault_text Newer = codes "Newer"
+fault_text NoRaw = codes "NoRaw"
+fault_text (Photometric v) = named (codes "Photometric") v
+fault_text (Compression v) = named (codes "Compression") v
+fault_text (Depth v) = named (codes "Depth") v
+fault_text (Samples v) = named (codes "Samples") v
+fault_text Size = codes "Size"
+fault_text Layout = codes "Layout"
+fault_text (Outside segment) = named (codes "Outside") segment
+fault_text Cfa = codes "Cfa"
+fault_text Levels = codes "Levels"
+fault_text Active = codes "Active"
+fault_text (Colour tag) = named (codes "Colour") tag
+fault_text Crop = codes "Crop"
+fault_text (Segment segment why) = named (codes "Segment") segment ++ 32 ∷ segment_fault_text why
+fault_text TooLong = codes "TooLong"
+fault_text (Format v) = named (codes "Format") v
+fault_text (Opcode list fault) = named (codes "Opcode") list ++ 32 ∷ opcode_fault_text fault
+fault_text (Trim list index) = named (codes "Trim") list ++ field index
+fault_text Memory = codes "Memory"
