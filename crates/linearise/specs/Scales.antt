@@ -1,7 +1,7 @@
 -- Words for multiplying in place of dividing, which only private contracts cite. This is this project's own.
 use Rattle.std.specs.Prelude.{◌≡◌, ℕ, ◌+◌, ◌*◌, ◌/◌, ◌^◌, ◌<◌, ◌≤◌, min, ℤ, pos, negsuc}
 
--- a factor that is 65535 * 2 * half / span, rounded up to the next whole number
+-- a whole number from 65535 * 2 * half / span up to one more; the scale takes the next greater one
 pub record IsFactor (span half factor : ℕ) : Type 0 where
   pub low : 65535 * (2 * half) ≤ factor * span
   pub high : factor * span ≤ 65535 * (2 * half) + span

@@ -7,9 +7,10 @@ ghost use Rattle.linearise.specs.Scales.{IsFactor, IsScale, held_of, part_of};
 /// The white level above the greatest black in 256ths, and what stands for dividing by it.
 ///
 /// A level x above black, from 0 to the span, becomes the quotient of 131070 x + span by twice the span. That is
-/// x times a factor of 64 bits, plus a half, shifted right: the factor is 65535 * 2^(shift + 32) over the span, rounded up,
-/// and 2^(shift + 31) is above the square of the span, so that the quotients are the same. The span has at most 29 bits, so
-/// each product of a level and a half of the factor has at most 61, and with the half added at most 62.
+/// x times a factor of 64 bits, plus a half, shifted right. The factor is the next whole number that is greater than
+/// 65535 * 2^(shift + 32) over the span, and 2^(shift + 31) is above the square of the span, so that the quotients are
+/// the same. The span has at most 29 bits, so each product of a level and a half of the factor has at most 61, and with
+/// the half added at most 62.
 #[derive(Clone, Copy, Debug)]
 pub(crate) struct Scale {
     pub(crate) span: u32,
@@ -117,7 +118,7 @@ fn held(above: i32, span: u32) -> u32
 /// 65535 * 2^48.
 const MOST: u64 = 65535 << 48;
 
-/// 65535 * 2^48 over a span, rounded up to the next whole number.
+/// The next whole number that is greater than 65535 * 2^48 over a span.
 fn short_factor(span: u64) -> u64
     requires { 1 ≤ span }
     ensures { IsFactor span (2 ^ 47) result }
@@ -125,7 +126,7 @@ fn short_factor(span: u64) -> u64
     MOST / span + 1
 }
 
-/// 65535 * 2^59 over a span, rounded up to the next whole number.
+/// The next whole number that is greater than 65535 * 2^59 over a span.
 fn long_factor(span: u64) -> u64
     requires some { 2 ^ 23 < span }
     requires most { span < 2 ^ 29 }

@@ -39,13 +39,14 @@ impl Model for Linearise {
 impl Linearise {
     ghost use Rattle.linearise.specs.declared.fault.LineariseFault.TheVariants.{Levels as LevelsFault};
 
-    /// The stage of an active area, by its levels. `black` is a black level that counts everywhere in place of theirs, what
-    /// columns and rows add among it; `white` is a white level that counts in place of theirs.
+    /// The stage of an active area, by its levels. Where there is a `black`, it is the black level of each place of the
+    /// area, and neither the pattern of the levels nor what columns and rows add counts. Where there is a `white`, it
+    /// is the white level in place of theirs. Both are sample values, not 256ths.
     ///
     /// # Errors
     ///
-    /// `Levels` exactly where the white level isn't above the greatest black level of the area; `Memory` where there was
-    /// none for the black levels of the columns and rows, and the table.
+    /// `Levels` exactly where the white level that counts isn't above the greatest black level that counts; `Memory`
+    /// where there was none for the black levels of the columns and rows, and the table.
     pub fn new(
         alloc: Global,
         levels: &Levels,

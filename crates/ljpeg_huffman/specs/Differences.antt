@@ -69,7 +69,7 @@ EndsWithin table bits = ((¬ BeginsWithCode table bits) × IsCutCode table bits)
 abbrev pub HasNoCode : Table → List Bool → Type 0
 HasNoCode table bits = (¬ BeginsWithCode table bits) × (¬ IsCutCode table bits)
 
--- No difference of the table stands at the front of the bits, for this reason.
+-- No prefix of the bits spells a difference of the table, for this reason.
 abbrev pub IsRefused : Table → List Bool → BitFault → Type 0
 IsRefused table bits Ended = EndsWithin table bits
 IsRefused table bits NoCode = HasNoCode table bits

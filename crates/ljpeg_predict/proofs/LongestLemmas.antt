@@ -1,4 +1,4 @@
--- Lists of differences that fronts of the same bits spell.
+-- Lists of differences that prefixes of the same bits spell.
 use Rattle.std.proofs.Common.{◌≡◌, ℕ, suc, ◌+◌, ◌≤◌, Bool, ℤ, List, [], ◌∷◌, ◌++◌, length, sym, ap, ◌∙◌, subst, arith, append_assoc, suc-add, zero-add}
 use Rattle.ljpeg_huffman.specs.Words.{Table, IsPrefixFree}
 use Rattle.ljpeg_huffman.specs.Differences.{IsRefused, Spells, SpellsOne}

@@ -35,7 +35,7 @@ not_ok : (r : Result (Unit {0}) JpegFault) (f : JpegFault) → r ≡ Err f → I
 not_ok (Ok u) f e ok = absurd (cc)
 not_ok (Err g) f e ok = absurd (cc)
 
--- what stands behind the same front of the same bits
+-- what stands behind the same prefix of the same bits
 same_rest : (a b x y : List Bool) → a ≡ b → a ++ x ≡ b ++ y → x ≡ y
 same_rest a b x y e f = append_cancel_left b x y (sym (ap (λ c. c ++ x) e) ∙ f)
 

@@ -84,7 +84,7 @@ adds_byte old middle new bits word before held byte more a is written =
 pub kept_all : (a : List ℕ) → KeepsFront a a
 kept_all a = take_all (length a) a (omega arith)
 
--- a front that stays over two steps
+-- a prefix that stays over two steps
 pub kept_twice : (a b c : List ℕ) → KeepsFront a b → KeepsFront b c → KeepsFront a c
 kept_twice a b c k l =
     let short : length a ≤ length b = omega (arith, ap length k, length-take (length a) b) in
@@ -119,6 +119,6 @@ adds_none old word held none = record {
 pub shifted_ones : (size : ℕ) → size < 32 → bits_of size (1 * 2 ^ size % 2 ^ 32 - 1) ≡ replicate size true
 shifted_ones size h = ap (λ n. bits_of size (n - 1)) (one_shl size 32 h) ∙ all_ones size
 
--- what is appended leaves the front
+-- what is appended leaves the prefix
 pub kept_front : (a more : List ℕ) → KeepsFront a (a ++ more)
 kept_front a more = take-append_seam a more

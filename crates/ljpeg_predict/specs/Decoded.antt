@@ -60,7 +60,7 @@ taken_or is_cut (Some code) = taken code
 taken_or true None = Err bit.Ended
 taken_or false None = Err bit.NoCode
 
--- the difference at the front of bits
+-- the difference that a prefix of bits spells
 unfoldable pub difference_in : Table → List Bool → Result Taken BitFault
 difference_in table bits = taken_or (list_any (λ entry. goes_on (behind bits entry.0)) table) (code_in table bits)
 
@@ -74,7 +74,7 @@ abbrev pub then_more : Result Taken BitFault → (List Bool → Result (List ℤ
 then_more (Ok next) more = before next.value (more next.rest)
 then_more (Err reason) more = Err reason
 
--- so many differences at the front of bits, each of the table of its place
+-- so many differences that a prefix of bits spells, each of the table of its place
 unfoldable pub differences_in : (ℕ → Table) → ℕ → List Bool → Result (List ℤ) BitFault
 differences_in tables zero bits = Ok []
 differences_in tables (suc count) bits =

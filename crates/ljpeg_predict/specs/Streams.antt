@@ -10,13 +10,13 @@ use Rattle.ljpeg_predict.specs.Scans.{Scan, table_at}
 use Rattle.ljpeg_predict.specs.declared.JpegFault.{JpegFault}
 use Rattle.ljpeg_predict.specs.declared.JpegFault.TheVariants as fault
 
--- A front of the scan's data bits spells these differences, and `rest` follows it.
+-- A prefix of the scan's data bits spells these differences, and `rest` follows it.
 pub record Begins (scan : Scan) (differences : List ℤ) (rest : List Bool) : Type 0 where
   pub taken : List Bool
   pub parts : data_bits scan.bytes ≡ taken ++ rest
   pub spelled : Spells (table_at scan) taken differences
 
--- A front of the scan's data bits spells so many differences, and these are their samples.
+-- A prefix of the scan's data bits spells so many differences, and these are their samples.
 pub record IsDecoded (scan : Scan) (want : ℕ) (samples : List ℕ) : Type 0 where
   pub differences : List ℤ
   pub rest : List Bool
@@ -24,7 +24,7 @@ pub record IsDecoded (scan : Scan) (want : ℕ) (samples : List ℕ) : Type 0 wh
   pub enough : length differences ≡ want
   pub rebuilt : IsRebuilt scan differences samples
 
--- No front of the scan's data bits spells so many differences. Behind the longest list that one spells, no further
+-- No prefix of the scan's data bits spells so many differences. Behind the longest list that one spells, no further
 -- difference can be taken, for this reason.
 pub record IsCutShort (scan : Scan) (want : ℕ) (reason : BitFault) : Type 0 where
   pub differences : List ℤ

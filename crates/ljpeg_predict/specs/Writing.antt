@@ -4,7 +4,7 @@ use Rattle.binary_digits.specs.Digits.{bits_of, byte_bits}
 use Rattle.ljpeg_predict.specs.Encoding.{stuffed}
 use Rattle.ljpeg_predict.specs.declared.writer.Pending.{Pending}
 
--- what was there stands at the front
+-- what was there is a prefix of what is there now
 abbrev pub KeepsFront : List ℕ → List ℕ → Type 0
 KeepsFront old new = take (length old) new ≡ old
 

@@ -1,4 +1,4 @@
-//! Demosaicing of a whole plane.
+//! Demosaicing of a whole plane in one call.
 
 ghost use Rattle.std.specs.Prelude.{◌≡◌, ◌*◌, ◌≤◌, length};
 ghost use Rattle.malvar.specs.Pattern.{IsBayer};
@@ -11,6 +11,8 @@ use plane_view::{Shape, TileMut, View};
 
 /// Writes red, green and blue of each pixel, side by side and row by row, of a plane of `rows` by `cols` samples under
 /// the pattern `cfa` (0 red, 1 green, 2 blue; row by row), by the filters of Malvar, He and Cutler. It takes no memory.
+///
+/// A development doesn't call it: it runs the stage [`crate::Demosaic`].
 pub fn whole(plane: &[u16], rows: u32, cols: u32, cfa: [u8; 4], out: &mut [u16])
     requires rows { 4 ≤ rows × rows ≤ 8192 }
     requires cols { 4 ≤ cols × cols ≤ 8192 }

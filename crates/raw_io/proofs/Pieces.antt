@@ -57,13 +57,13 @@ pub front_none : (told : Option (List ℕ)) (whole : List ℕ) (at : ℕ) → at
 front_none None whole at zero none = tt
 front_none (Some l) whole at zero none = none ∙ ap (λ (n : ℕ). take n l) (sym zero)
 
--- the front of the contents, and the bytes that a read put behind it
+-- a prefix of the contents, and the bytes that a read put behind it
 pub front_more : (told : Option (List ℕ)) (whole more buffer : List ℕ) (at next n : ℕ) → more ≡ whole ++ take n buffer → next ≡ at + n → IfSome told (λ l. whole ≡ take at l) → IfSome told (λ l. ReadsAt l at buffer n) → IfSome told (λ l. more ≡ take next l)
 front_more None whole more buffer at next n pushed ends front read = tt
 front_more (Some l) whole more buffer at next n pushed ends front read =
     pushed ∙ ap (λ (t : List ℕ). t ++ take n buffer) front ∙ ap (λ (t : List ℕ). take at l ++ t) read.bytes ∙ sym (take-add at n l) ∙ ap (λ (k : ℕ). take k l) (sym ends)
 
--- at the end of the contents the front is all of them
+-- at the end of the contents the prefix is all of them
 pub front_all : (told : Option (List ℕ)) (whole buffer : List ℕ) (at n : ℕ) → 0 < length buffer → n ≡ 0 → IfSome told (λ l. whole ≡ take at l) → IfSome told (λ l. ReadsAt l at buffer n) → IfSome told (λ l. whole ≡ l)
 front_all None whole buffer at n some ends front read = tt
 front_all (Some l) whole buffer at n some ends front read =
@@ -81,7 +81,7 @@ appends_more stands_for a b c bytes rest m n is first then list was =
     let joined : take m bytes ++ take n rest ≡ take (m + n) bytes = ap (λ (t : List ℕ). take m bytes ++ take n t) is ∙ sym (take-add m n bytes) in
     subst P (append_assoc list (take m bytes) (take n rest) ∙ ap (λ (t : List ℕ). list ++ t) joined) (then (list ++ take m bytes) (first list was))
 
--- what a source in memory has left begins with the bytes that were copied from its front
+-- the bytes that were copied are a prefix of what a source in memory has left
 pub copied_front : (bytes left from into old : List ℕ) (taken count : ℕ) → left ≡ drop taken bytes → from ≡ drop taken bytes → count ≡ min (length from) (length old) → into ≡ take count from ++ drop count old → left ≡ take count into ++ drop (taken + count) bytes
 copied_front bytes left from into old taken count is same counts copied =
     let n : length (take count from) ≡ count = omega (arith, length-take count from) in

@@ -19,12 +19,12 @@ pub record ReadsAt (contents : List ℕ) (at : ℕ) (buffer : List ℕ) (n : ℕ
   pub within : n ≤ length contents - at
   pub end : n ≡ 0 → length buffer ≡ 0 ⊎ length contents ≤ at
 
--- The told bytes that are left, after these were taken from their front. Nothing is claimed of what isn't told.
+-- The told bytes that are left, after this prefix of them was taken. Nothing is claimed of what isn't told.
 abbrev pub Takes : Option (List ℕ) → Option (List ℕ) → List ℕ → Type 0
 Takes None left taken = ⊤
 Takes (Some before) left taken = (rest : List ℕ) × (before ≡ taken ++ rest) × (left ≡ Some rest)
 
--- Some of the told bytes that are left were taken from their front, no more than this many.
+-- A prefix of the told bytes that are left was taken, of no more than this many.
 abbrev pub TakesAtMost : ℕ → Option (List ℕ) → Option (List ℕ) → Type 0
 TakesAtMost most before after = (taken : List ℕ) × Takes before after taken × (length taken ≤ most)
 

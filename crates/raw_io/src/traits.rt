@@ -34,7 +34,7 @@ pub trait Source {
     /// How often a read has failed. A read that went well leaves it.
     ghost faults: { Self → ℕ };
 
-    /// Takes bytes from the front into the front of `into`, and answers how many; 0 for a slice that isn't empty only
+    /// Takes a prefix of them into the front of `into`, and answers its length; 0 for a slice that isn't empty only
     /// where none are left. A read that failed took nothing.
     fn read(&mut self, into: &mut [u8]) -> Result<usize, Failed>
         ensures counts { faults self.old ≤ faults self.new }
@@ -55,7 +55,7 @@ pub trait Sink {
     /// How often a write has failed. A write that went well leaves it.
     ghost faults: { Self → ℕ };
 
-    /// Appends bytes from the front of `from`, and answers how many; not 0 for a slice that isn't empty. A write that
+    /// Appends a prefix of `from`, and answers its length; not 0 for a slice that isn't empty. A write that
     /// failed appended nothing.
     fn write(&mut self, from: &[u8]) -> Result<usize, Failed>
         ensures counts { faults self.old ≤ faults self.new }

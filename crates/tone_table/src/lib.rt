@@ -18,7 +18,7 @@ pub const MAX_KNOTS: usize = 16;
 pub enum Curve {
     /// Each sample stays.
     Linear,
-    /// The square root, scaled so that 65535 stays.
+    /// The square root, scaled so that 65535 stays, and rounded down.
     Root,
     /// Straight lines between knots.
     Knots(Knots),
