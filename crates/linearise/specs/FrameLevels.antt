@@ -1,6 +1,6 @@
 -- The levels of a frame are those of a stage, without settings.
 use Rattle.std.proofs.Common.{◌≡◌, ℕ, None, pos, refl, arith}
-use Rattle.std.specs.Prelude.{◌≤ℤ◌, ◌<ℤ◌}
+use Rattle.std.specs.Prelude.{◌≤ℤ◌}
 use Rattle.std.proofs.lemmas.Int.{ints}
 use Rattle.dng_tags.specs.Black.{span_of}
 use Rattle.dng_tags.specs.Facts.{AreLevels}
