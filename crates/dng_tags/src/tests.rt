@@ -182,18 +182,18 @@ static SEGMENTS: [Row; 24] = [
 ];
 
 // Opcode lists of a count and whole opcodes: an ID, a DNG version, flags, how many bytes of parameters, the parameters.
-static EMPTY_LIST: [u8; 4] = [0, 0, 0, 0];
+const EMPTY_LIST: &[u8] = &[0, 0, 0, 0];
 
-static WARP: [u8; 20] = [0, 0, 0, 1, 0, 0, 0, 1, 1, 3, 0, 0, 0, 0, 0, 0, 0, 0, 0, 0];
+const WARP: &[u8] = &[0, 0, 0, 1, 0, 0, 0, 1, 1, 3, 0, 0, 0, 0, 0, 0, 0, 0, 0, 0];
 
 // A TrimBounds of rows 0 to 5 and columns 0 to 4, behind an optional WarpRectilinear.
-static LOW_TRIM: [u8; 52] = [
+const LOW_TRIM: &[u8] = &[
     0, 0, 0, 2, 0, 0, 0, 1, 1, 3, 0, 0, 0, 0, 0, 1, 0, 0, 0, 0, 0, 0, 0, 6, 1, 3, 0, 0, 0, 0, 0, 0,
     0, 0, 0, 16, 0, 0, 0, 0, 0, 0, 0, 0, 0, 0, 0, 5, 0, 0, 0, 4,
 ];
 
 // A TrimBounds of rows 0 to 3 and columns 0 to 4, twice: the second finds three rows.
-static SMALL_TRIMS: [u8; 68] = [
+const SMALL_TRIMS: &[u8] = &[
     0, 0, 0, 2, 0, 0, 0, 6, 1, 3, 0, 0, 0, 0, 0, 0, 0, 0, 0, 16, 0, 0, 0, 0, 0, 0, 0, 0, 0, 0, 0,
     3, 0, 0, 0, 4, 0, 0, 0, 6, 1, 3, 0, 0, 0, 0, 0, 0, 0, 0, 0, 16, 0, 0, 0, 0, 0, 0, 0, 0, 0, 0,
     0, 3, 0, 0, 0, 4,
@@ -201,7 +201,7 @@ static SMALL_TRIMS: [u8; 68] = [
 
 static OPCODE_LISTS: [Row; 11] = [
     (&[(51008, Odd(11, 1))], F::FloatTag { tag: 51008 }),
-    (&[(51009, Bytes(&EMPTY_LIST))], F::BadEntry { tag: 51009 }),
+    (&[(51009, Bytes(EMPTY_LIST))], F::BadEntry { tag: 51009 }),
     (
         &[(51022, Undefined(&[]))],
         F::Opcode {
@@ -217,30 +217,30 @@ static OPCODE_LISTS: [Row; 11] = [
         },
     ),
     (
-        &[(51022, Undefined(&WARP))],
+        &[(51022, Undefined(WARP))],
         F::Opcode {
             list: 3,
             fault: OpcodeFault::Unknown { index: 0, id: 1 },
         },
     ),
     (
-        &[(51008, Undefined(&LOW_TRIM))],
+        &[(51008, Undefined(LOW_TRIM))],
         F::Trim { list: 1, index: 1 },
     ),
     (
-        &[(51009, Undefined(&LOW_TRIM))],
+        &[(51009, Undefined(LOW_TRIM))],
         F::Trim { list: 2, index: 1 },
     ),
     (
-        &[(51022, Undefined(&LOW_TRIM))],
+        &[(51022, Undefined(LOW_TRIM))],
         F::Trim { list: 3, index: 1 },
     ),
     // The active area is the whole of what list 1 leaves.
-    (&[(51008, Undefined(&SMALL_TRIMS))], F::Size),
-    (&[(51009, Undefined(&SMALL_TRIMS))], F::Size),
+    (&[(51008, Undefined(SMALL_TRIMS))], F::Size),
+    (&[(51009, Undefined(SMALL_TRIMS))], F::Size),
     // List 3 comes behind the size, and before the crop.
     (
-        &[(51022, Undefined(&SMALL_TRIMS)), (50719, Shorts(&[0, 3]))],
+        &[(51022, Undefined(SMALL_TRIMS)), (50719, Shorts(&[0, 3]))],
         F::Crop,
     ),
 ];
