@@ -2,7 +2,6 @@ pub mod Crops
 pub mod CropLaws
 pub mod Maps
 pub mod MapRows
-pub mod MapStages
 pub mod Equality
 pub mod MapLaws
 pub mod Mends
@@ -11,4 +10,5 @@ pub mod MendLaws
 pub mod Places
 pub mod Indexes
 pub mod MendStages
+pub mod BadPixels
 pub mod MendEquality

@@ -6,10 +6,8 @@ use Rattle.std.specs.Cmp.Lexicographic.{pointwise_decides}
 use Rattle.plane_view.specs.declared.Rect.{Rect}
 use Rattle.plane_view.specs.declared.Shape.{Shape}
 use Rattle.stage_core.specs.Stages.{AreAlike, RestsOn}
-use Rattle.opcode_stages.specs.declared.map_table.MapTable.{MapTable}
 use Rattle.opcode_stages.specs.contracts.map_table.MapTablePartialEq.TheImpl.{ghosts}
 use Rattle.opcode_stages.specs.Maps.{Mapping, is_mapped, entry_of, mapped, mapped_at}
-use Rattle.opcode_stages.specs.MapStages.{mapping_of}
 use Rattle.opcode_stages.specs.Equality.{rect_equality}
 
 -- a mapped sample rests on the sample there
@@ -19,12 +17,12 @@ map_rests m input rect = record {
 }
 
 -- two maps are equal exactly where what they change, and their tables, are equal
-pub map_equality : (s t : MapTable) → Decides (ghosts.eq s t) (mapping_of s ≡ mapping_of t)
+pub map_equality : (s t : Mapping) → Decides (ghosts.eq s t) (s ≡ t)
 map_equality s t =
     Decides-like (ghosts.eq s t)
     (λ (h : (s.rect ≡ t.rect) × ((s.plane ≡ t.plane) × ((s.planes ≡ t.planes) × ((s.row_pitch ≡ t.row_pitch) × ((s.col_pitch ≡ t.col_pitch) × (s.table ≡ t.table)))))).
     λ i. record { rect = h.0 i; plane = h.1.0 i; planes = h.1.1.0 i; row_pitch = h.1.1.1.0 i; col_pitch = h.1.1.1.1.0 i; table = h.1.1.1.1.1 i })
-    (λ (e : mapping_of s ≡ mapping_of t).
+    (λ (e : s ≡ t).
     (ap (λ (m : Mapping). m.rect) e, (ap (λ (m : Mapping). m.plane) e, (ap (λ (m : Mapping). m.planes) e, (ap (λ (m : Mapping). m.row_pitch) e, (ap (λ (m : Mapping). m.col_pitch) e, ap (λ (m : Mapping). m.table) e))))))
     (Decides-and _ _ (rect_equality s.rect t.rect)
     (Decides-and _ _ (Decides-eqb s.plane t.plane)
@@ -33,9 +31,9 @@ map_equality s t =
     (Decides-and _ _ (Decides-eqb s.col_pitch t.col_pitch) (pointwise_decides Decides-eqb s.table t.table))))))
 
 -- equal maps are alike
-pub map_alike : (s t : MapTable) → ghosts.eq s t ≡ true → AreAlike (λ (s : MapTable) input. ⊤) (λ (s : MapTable) input. input) (λ (s : MapTable) input rect. rect) (λ (s : MapTable) P. mapped (mapping_of s) P) s t
+pub map_alike : (s t : Mapping) → ghosts.eq s t ≡ true → AreAlike (λ (s : Mapping) input. ⊤) (λ (s : Mapping) input. input) (λ (s : Mapping) input rect. rect) (λ (s : Mapping) P. mapped s P) s t
 map_alike s t equal =
-    let same : mapping_of s ≡ mapping_of t = (map_equality s t).0 equal in
+    let same : s ≡ t = (map_equality s t).0 equal in
     record {
       inputs = λ input takes. takes;
       shapes = λ input. refl;

@@ -1,10 +1,10 @@
 //! The mending of listed pixels.
 
-ghost use Rattle.std.specs.Prelude.{◌≡◌, ℕ, ◌^◌, ◌<◌, ◌≤◌, IfOk};
+ghost use Rattle.std.specs.Prelude.{◌≡◌, ◌≤◌, ◌↔◌, IfOk, IsTrue};
 ghost use Rattle.plane_view.specs.Rectangles.{grown, whole_rect};
-ghost use Rattle.opcode_stages.specs.Mends.{is_point, is_listed, mended, mended_at};
+ghost use Rattle.opcode_stages.specs.BadPixels.{same_pixels};
+ghost use Rattle.opcode_stages.specs.Mends.{is_listed, mended, mended_at};
 ghost use Rattle.opcode_stages.specs.MendRows.{IsSingle};
-ghost use Rattle.opcode_stages.specs.Indexes.{has_place};
 
 use crate::defects::{Defects, fill_row};
 use crate::places::Places;
@@ -13,24 +13,37 @@ use lists::Items;
 use plane_view::{Rect, Shape, TileMut, View};
 use stage_core::{Stage, Steps};
 use std::alloc::{AllocError, Global};
+use std::marker::Model;
 use std::sync::ledger::Ledger;
 
 /// Mends the pixels that are listed, as points and by rectangles: each becomes the mean of its good neighbours of the
-/// same colour. It takes planes of one sample a pixel. Two are equal where the lists are, as they were given.
+/// same colour. It takes planes of one sample a pixel.
+///
+/// A contract sees it as its `BadPixels`: the phase, the points and the rectangles, as they were given.
 #[derive(Drop)]
-#[derive_where(Debug, PartialEq, Eq)]
+#[derive_where(Debug)]
 pub struct FixList {
     phase: u8,
     points: Items<(u32, u32)>,
     rects: Items<Rect>,
     #[derive_where(skip)]
     places: Places,
-    ghost indexed: { (r c : ℕ) → c < 2 ^ 32 → has_place places r c ≡ is_point points r c },
+}
+
+impl Model for FixList {
+    ghost use Rattle.std.specs.Prelude.{◌≡◌, ℕ, ◌^◌, ◌<◌};
+    ghost use Rattle.opcode_stages.specs.BadPixels.{BadPixels};
+    ghost use Rattle.opcode_stages.specs.Mends.{is_point};
+    ghost use Rattle.opcode_stages.specs.Indexes.{has_place};
+
+    ghost Value = { BadPixels };
+
+    ghost view = { λ s. record { phase = s.phase; points = s.points; rects = s.rects } };
+
+    ghost invariant = { λ s. (r c : ℕ) → c < 2 ^ 32 → has_place s.places r c ≡ is_point s.points r c };
 }
 
 impl FixList {
-    ghost use Rattle.opcode_stages.specs.MendStages.{pixels_of};
-
     /// The mending of points (row, column) and of the pixels of rectangles. The phase tells the plane's top left pixel:
     /// 0 red, 1 green in a row of green and red, 2 green in a row of green and blue, 3 blue.
     ///
@@ -44,7 +57,7 @@ impl FixList {
         rects: &[Rect],
     ) -> Result<FixList, AllocError>
         requires { phase ≤ 3 }
-        ensures { IfOk result (λ list. pixels_of list ≡ record { phase = phase; points = points.now; rects = rects.now }) }
+        ensures { IfOk result (λ list. list ≡ record { phase = phase; points = points.now; rects = rects.now }) }
     {
         let places = Places::new(alloc, points)?;
         let points = Items::from_slice(alloc, points)?;
@@ -56,6 +69,28 @@ impl FixList {
             places,
         })
     }
+}
+
+/// Two are equal where the phase, the points and the rectangles are, as they were given.
+impl PartialEq for FixList {
+    ghost use Rattle.opcode_stages.specs.MendEquality.{pixels_per};
+
+    ghost eq = { same_pixels };
+
+    ghost laws = { pixels_per };
+
+    fn eq(&self, other: &FixList) -> bool
+        ensures value { result ≡ same_pixels self.now other.now }
+        ensures same { IsTrue result ↔ (self.now ≡ other.now) }
+    {
+        (self.phase, &self.points, &self.rects) == (other.phase, &other.points, &other.rects)
+    }
+}
+
+impl Eq for FixList {
+    ghost use Rattle.opcode_stages.specs.MendEquality.{pixels_equiv};
+
+    ghost laws = { pixels_equiv };
 }
 
 impl Defects for FixList {

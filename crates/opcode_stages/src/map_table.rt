@@ -10,11 +10,14 @@ use lists::Items;
 use plane_view::{Rect, Shape, TileMut, View};
 use stage_core::{Stage, Steps};
 use std::alloc::{AllocError, Global};
+use std::marker::Model;
 use std::sync::ledger::Ledger;
 
 /// Takes a table's entry for samples of a rectangle: those on each so many rows and columns from its top and its left
 /// edge, in some planes. A value past the table takes its last entry. It takes planes of every shape, and the rectangle
 /// may reach past them.
+///
+/// A contract sees it as its `Mapping`, which has all these.
 #[derive(Debug, Drop, PartialEq, Eq)]
 pub struct MapTable {
     rect: Rect,
@@ -23,14 +26,22 @@ pub struct MapTable {
     row_pitch: u32,
     col_pitch: u32,
     table: Items<u16>,
-    ghost rows_apart: { 1 ≤ row_pitch },
-    ghost cols_apart: { 1 ≤ col_pitch },
-    ghost some: { 1 ≤ length table },
+}
+
+impl Model for MapTable {
+    ghost use Rattle.opcode_stages.specs.Maps.{Mapping, IsApart};
+
+    ghost Value = { Mapping };
+
+    ghost view = { λ s. record { rect = s.rect; plane = s.plane; planes = s.planes; row_pitch = s.row_pitch; col_pitch = s.col_pitch; table = s.table } };
+
+    ghost invariant = { λ s. IsApart s.row_pitch s.col_pitch s.table };
+
+    ghost inverse = { λ m. record { rect = m.rect; plane = m.plane; planes = m.planes; row_pitch = m.row_pitch; col_pitch = m.col_pitch; table = m.table } };
 }
 
 impl MapTable {
     ghost use Rattle.opcode_stages.specs.Maps.{mapped_at};
-    ghost use Rattle.opcode_stages.specs.MapStages.{mapping_of};
 
     /// The map of the samples on each `row_pitch` rows and `col_pitch` columns of a rectangle, in `planes` planes from
     /// `plane` on, through a table of 1 to 65,536 entries. A pitch is at least 1.
@@ -51,7 +62,7 @@ impl MapTable {
         requires col_pitch { 1 ≤ col_pitch }
         requires some { 1 ≤ length table.now }
         requires few { length table.now ≤ 65536 }
-        ensures { IfOk result (λ map. mapping_of map ≡ record {
+        ensures { IfOk result (λ map. map ≡ record {
           rect = rect;
           plane = plane;
           planes = planes;
@@ -86,7 +97,7 @@ impl MapTable {
         requires cols { rect.right ≤ 8192 }
         requires planes { input.now.planes ≤ 3 }
         requires out { length out.old ≡ width rect * input.now.planes }
-        ensures { IsRowOf (mapped_at (mapping_of self.now) (sample_at input.now)) rect input.now.planes r out.new }
+        ensures { IsRowOf (mapped_at self.now (sample_at input.now)) rect input.now.planes r out.new }
     {
         out.copy_from_slice(input.run(r, rect.left, rect.right));
         if !self.has_row(r) {
@@ -110,11 +121,10 @@ impl MapTable {
 impl Stage for MapTable {
     ghost use Rattle.std.specs.Prelude.{⊤};
     ghost use Rattle.opcode_stages.specs.Maps.{mapped, mapped_at};
-    ghost use Rattle.opcode_stages.specs.MapStages.{mapping_of};
     ghost use Rattle.opcode_stages.specs.MapLaws.{map_rests, map_alike};
     ghost use Rattle.stage_core.proofs.Formulas.{planes_by, local_by};
 
-    ghost apply = { λ s P. mapped (mapping_of s) P };
+    ghost apply = { λ s P. mapped s P };
 
     ghost takes = { λ s input. ⊤ };
 
@@ -144,11 +154,11 @@ impl Stage for MapTable {
 
     ghost makes_shapes = { λ s input is takes. is };
 
-    ghost makes_planes = { λ s input P shape takes is. planes_by (λ t. t) (λ whole at. mapped_at (mapping_of s) at) input P is };
+    ghost makes_planes = { λ s input P shape takes is. planes_by (λ t. t) (λ whole at. mapped_at s at) input P is };
 
     ghost needs_part = { λ s input rect shape takes part. part };
 
-    ghost local = { λ s input rect shape takes part. local_by (λ t. t) (λ whole at. mapped_at (mapping_of s) at) input rect rect part (map_rests (mapping_of s) input rect) };
+    ghost local = { λ s input rect shape takes part. local_by (λ t. t) (λ whole at. mapped_at s at) input rect rect part (map_rests s input rect) };
 
     ghost equal_alike = { map_alike };
 }

@@ -6,8 +6,7 @@ ghost use Rattle.plane_view.specs.Rectangles.{area_of};
 ghost use Rattle.plane_view.specs.Shapes.{IsShape};
 ghost use Rattle.stage_core.specs.Planes.{IsPart};
 ghost use Rattle.opcode_stages.specs.Crops.{cropped_to};
-ghost use Rattle.opcode_stages.specs.MapStages.{mapping_of};
-ghost use Rattle.opcode_stages.specs.MendStages.{constant_of, phase_of, pixels_of};
+ghost use Rattle.opcode_stages.specs.MendStages.{constant_of, phase_of};
 
 use super::*;
 use plane_view::{Rect, Shape, TileMut, View};
@@ -98,7 +97,7 @@ fn same_constants(a: &FixConstant, b: &FixConstant) -> bool
 
 /// Whether two mendings of listed pixels are equal: exactly where the lists are, as they were given.
 fn same_lists(a: &FixList, b: &FixList) -> bool
-    ensures { Decides result (pixels_of a.now ≡ pixels_of b.now) }
+    ensures { Decides result (a.now ≡ b.now) }
 {
     a == b
 }
@@ -244,7 +243,7 @@ fn same_crops(a: &Crop, b: &Crop) -> bool
 
 /// Whether two maps are equal: exactly where what they change and their tables are.
 fn same_maps(a: &MapTable, b: &MapTable) -> bool
-    ensures { Decides result (mapping_of a.now ≡ mapping_of b.now) }
+    ensures { Decides result (a.now ≡ b.now) }
 {
     a == b
 }

@@ -3,4 +3,4 @@ use Rattle.opcode_stages.specs.MapRows.{MapsPlanes}
 use Rattle.opcode_stages.proofs.map_table.MapTable.fill_row.Given as goal
 
 abbrev pub invariant-loop-p : goal.invariant-loop-p
-invariant-loop-p l = MapsPlanes l.self.table l.initial.out l.out l.count l.self.plane l.p l.columns.from l.columns.to l.columns.pitch
+invariant-loop-p l = MapsPlanes l.self-inside.table l.initial.out l.out l.count l.self-inside.plane l.p l.columns.from l.columns.to l.columns.pitch

@@ -4,13 +4,12 @@ use Rattle.plane_view.specs.Rows.{IsRowOf}
 use Rattle.plane_view.specs.Lent.{sample_at}
 use Rattle.stage_core.proofs.Formulas.{made_by}
 use Rattle.opcode_stages.specs.Maps.{mapped_at}
-use Rattle.opcode_stages.specs.MapStages.{mapping_of}
 use Rattle.opcode_stages.specs.MapLaws.{map_rests}
 use Rattle.opcode_stages.proofs.map_table.MapTableStage.run.Goals as goal
 
 pub returns-clause-made : goal.returns-clause-made
 returns-clause-made g c =
-    let m = mapping_of c.args.self.now in
+    let m = c.args.self.now in
     let L = c.args.input.now in
     let whole = c.args._whole in
     let first = c.args.out.now in
