@@ -1,6 +1,6 @@
 //! The groups of the opcode lists.
 
-ghost use Rattle.std.specs.Prelude.{◌≡◌, ◌≤◌, None, All, IfOk};
+ghost use Rattle.std.specs.Prelude.{◌≡◌, ◌≤◌, None, All, IfOk, length};
 ghost use Rattle.opcode_list.specs.Params.{CanRunIn};
 ghost use Rattle.opcode_list.specs.Trims.{IsPartOf, first_misfit, left_after};
 ghost use Rattle.plane_view.specs.Rectangles.{IsNonEmpty};
@@ -38,6 +38,7 @@ pub fn read_listed(
     requires some_cols { 1 ≤ found.cols }
     ensures answer { Answers result (listed_of dirs.now list found) }
     ensures can_run { IfOk result (λ listed. All (CanRunIn list) listed.opcodes) }
+    ensures count { IfOk result (λ listed. length listed.opcodes ≤ 16) }
     ensures fit { IfOk result (λ listed. first_misfit 0 listed.opcodes found ≡ None) }
     ensures left { IfOk result (λ listed. listed.left ≡ left_after listed.opcodes found) }
     ensures part { IfOk result (λ listed. IsPartOf found listed.left) }

@@ -1,0 +1,154 @@
+-- Walks over the opcodes of a list, and the shapes that their stages take.
+use Rattle.std.proofs.Common.{◌≡◌, ℕ, ◌+◌, ◌*◌, ◌%◌, ◌<◌, ◌≤◌, ◌⊎◌, ⊎_elim, ◌&&◌, Bool, true, false, nat_le, if◌then◌else◌, All, List, [], ◌∷◌, ◌++◌, slice_index, Option, None, Some, drop, drop-cons, get_or, add-one, length, refl, sym, ◌∙◌, ap, subst, arith}
+use Rattle.std.specs.List.{cons_option}
+use Rattle.std.proofs.lemmas.Bool.{cases_Bool, cases_lt, cond-false, cond-true, leb-true}
+use Rattle.std.proofs.lemmas.List.{drop_all}
+use Rattle.std.proofs.lemmas.List.Elements.{All-get_or, All-head, All-tail}
+use Rattle.plane_view.specs.declared.Rect.{Rect}
+use Rattle.plane_view.specs.declared.Shape.{Shape}
+use Rattle.stage_chain.specs.Chains.{TakeInTurn}
+use Rattle.opcode_list.specs.Params.{CanRun, CanRunIn}
+use Rattle.opcode_list.specs.Trims.{first_misfit, fits, left_after, left_by}
+use Rattle.opcode_list.specs.declared.opcode.Opcode.{Opcode}
+use Rattle.opcode_list.specs.declared.opcode.Opcode.TheVariants.{FixConstant, FixList, Map, Skipped, Trim}
+use Rattle.malvar.specs.Pattern.{IsBayer, colour_at}
+use Rattle.dev_stages.specs.Listed.{listed, moved, moved_by, opcode_stage}
+use Rattle.dev_stages.specs.Members.{shaped_of, takes_of}
+use Rattle.dev_stages.specs.declared.stage.DevStage.{DevStage}
+
+-- an opcode that is the next one of a list
+next : {X : Type 0} (xs : List X) (k : ℕ) (x : X) → k < length xs → x ≡ get_or xs k x → drop k xs ≡ x ∷ drop (k + 1) xs
+next xs k x within is = drop-cons xs k x within ∙ (λ i. sym is i ∷ drop (sym (add-one k) i) xs)
+
+pub listed_on : (opcodes : List Opcode) (k : ℕ) (opcode : Opcode) → k < length opcodes → opcode ≡ get_or opcodes k opcode
+    → listed (drop k opcodes) ≡ cons_option (opcode_stage opcode) (listed (drop (k + 1) opcodes))
+unfolding listed
+listed_on opcodes k opcode within is = ap listed (next opcodes k opcode within is)
+
+pub all_listed : (opcodes : List Opcode) (k : ℕ) → length opcodes ≤ k → listed (drop k opcodes) ≡ []
+unfolding listed
+all_listed opcodes k all = ap listed (drop_all k opcodes all)
+
+pub moved_on : (opcodes : List Opcode) (k : ℕ) (opcode : Opcode) (cfa : List ℕ) → k < length opcodes → opcode ≡ get_or opcodes k opcode
+    → moved (drop k opcodes) cfa ≡ moved (drop (k + 1) opcodes) (moved_by opcode cfa)
+unfolding moved
+moved_on opcodes k opcode cfa within is = ap (λ xs. moved xs cfa) (next opcodes k opcode within is)
+
+pub all_moved : (opcodes : List Opcode) (k : ℕ) (cfa : List ℕ) → length opcodes ≤ k → moved (drop k opcodes) cfa ≡ cfa
+unfolding moved
+all_moved opcodes k cfa all = ap (λ xs. moved xs cfa) (drop_all k opcodes all)
+
+-- it can be run
+pub runs_at : (opcodes : List Opcode) (k : ℕ) (opcode : Opcode) → k < length opcodes → opcode ≡ get_or opcodes k opcode → All CanRun opcodes → CanRun opcode
+runs_at opcodes k opcode within is runs = subst CanRun (sym is) (All-get_or CanRun opcodes k opcode within runs)
+
+-- a row or a column, and the next one, by what is left at a division by 2
+parities : (n : ℕ) → ((n % 2 ≡ 0) × ((1 + n) % 2 ≡ 1)) ⊎ ((n % 2 ≡ 1) × ((1 + n) % 2 ≡ 0))
+parities n =
+    ⊎_elim (λ (h : n % 2 < 1). in0 (omega (arith, h), omega (arith, h))) (λ (h : 1 ≤ n % 2). in1 (omega (arith, h), omega (arith, h))) (cases_lt (n % 2) 1)
+
+-- the colours of a pattern that is moved, by what is left of the rows and the columns at a division by 2
+abbrev moved_to : List ℕ → (top below left right : ℕ) → List ℕ
+moved_to cfa top below left right =
+    slice_index cfa (top * 2 + left) ∷ slice_index cfa (top * 2 + right) ∷ slice_index cfa (below * 2 + left) ∷ slice_index cfa (below * 2 + right) ∷ []
+
+-- a pattern stays, or is moved by a row, by a column, or by both
+stays : (cfa : List ℕ) → IsBayer cfa → IsBayer (moved_to cfa 0 1 0 1)
+stays cfa (in0 e) = in0 (ap (λ xs. moved_to xs 0 1 0 1) e)
+stays cfa (in1 (in0 e)) = in1 (in0 (ap (λ xs. moved_to xs 0 1 0 1) e))
+stays cfa (in1 (in1 (in0 e))) = in1 (in1 (in0 (ap (λ xs. moved_to xs 0 1 0 1) e)))
+stays cfa (in1 (in1 (in1 e))) = in1 (in1 (in1 (ap (λ xs. moved_to xs 0 1 0 1) e)))
+
+by_row : (cfa : List ℕ) → IsBayer cfa → IsBayer (moved_to cfa 1 0 0 1)
+by_row cfa (in0 e) = in1 (in1 (in1 (ap (λ xs. moved_to xs 1 0 0 1) e)))
+by_row cfa (in1 (in0 e)) = in1 (in1 (in0 (ap (λ xs. moved_to xs 1 0 0 1) e)))
+by_row cfa (in1 (in1 (in0 e))) = in1 (in0 (ap (λ xs. moved_to xs 1 0 0 1) e))
+by_row cfa (in1 (in1 (in1 e))) = in0 (ap (λ xs. moved_to xs 1 0 0 1) e)
+
+by_column : (cfa : List ℕ) → IsBayer cfa → IsBayer (moved_to cfa 0 1 1 0)
+by_column cfa (in0 e) = in1 (in1 (in0 (ap (λ xs. moved_to xs 0 1 1 0) e)))
+by_column cfa (in1 (in0 e)) = in1 (in1 (in1 (ap (λ xs. moved_to xs 0 1 1 0) e)))
+by_column cfa (in1 (in1 (in0 e))) = in0 (ap (λ xs. moved_to xs 0 1 1 0) e)
+by_column cfa (in1 (in1 (in1 e))) = in1 (in0 (ap (λ xs. moved_to xs 0 1 1 0) e))
+
+by_both : (cfa : List ℕ) → IsBayer cfa → IsBayer (moved_to cfa 1 0 1 0)
+by_both cfa (in0 e) = in1 (in0 (ap (λ xs. moved_to xs 1 0 1 0) e))
+by_both cfa (in1 (in0 e)) = in0 (ap (λ xs. moved_to xs 1 0 1 0) e)
+by_both cfa (in1 (in1 (in0 e))) = in1 (in1 (in1 (ap (λ xs. moved_to xs 1 0 1 0) e)))
+by_both cfa (in1 (in1 (in1 e))) = in1 (in1 (in0 (ap (λ xs. moved_to xs 1 0 1 0) e)))
+
+-- a row or a column, and the next one, where the first is even or odd
+abbrev Parity : ℕ → Type 0
+Parity n = ((0 ≡ n % 2) × (1 ≡ (1 + n) % 2)) ⊎ ((1 ≡ n % 2) × (0 ≡ (1 + n) % 2))
+
+parity : (n : ℕ) → Parity n
+parity n =
+    ⊎_elim (λ (h : n % 2 < 1). in0 (omega (arith, h), omega (arith, h))) (λ (h : 1 ≤ n % 2). in1 (omega (arith, h), omega (arith, h))) (cases_lt (n % 2) 1)
+
+bayer_at : (cfa : List ℕ) (top left : ℕ) → IsBayer cfa → Parity top → Parity left → IsBayer (moved_to cfa (top % 2) ((1 + top) % 2) (left % 2) ((1 + left) % 2))
+bayer_at cfa top left is (in0 r) (in0 c) = subst IsBayer (λ i. moved_to cfa (r.0 i) (r.1 i) (c.0 i) (c.1 i)) (stays cfa is)
+bayer_at cfa top left is (in1 r) (in0 c) = subst IsBayer (λ i. moved_to cfa (r.0 i) (r.1 i) (c.0 i) (c.1 i)) (by_row cfa is)
+bayer_at cfa top left is (in0 r) (in1 c) = subst IsBayer (λ i. moved_to cfa (r.0 i) (r.1 i) (c.0 i) (c.1 i)) (by_column cfa is)
+bayer_at cfa top left is (in1 r) (in1 c) = subst IsBayer (λ i. moved_to cfa (r.0 i) (r.1 i) (c.0 i) (c.1 i)) (by_both cfa is)
+
+pub bayer_on : (opcode : Opcode) (cfa : List ℕ) → IsBayer cfa → IsBayer (moved_by opcode cfa)
+bayer_on (FixConstant constant phase) cfa is = is
+bayer_on (FixList phase points rects) cfa is = is
+bayer_on (Trim rect) cfa is = bayer_at cfa rect.top rect.left is (parity rect.top) (parity rect.left)
+bayer_on (Map rect plane planes row_pitch col_pitch table) cfa is = is
+bayer_on (Skipped id) cfa is = is
+
+both : (s t : Bool) → (s && t) ≡ true → (s ≡ true) × (t ≡ true)
+both true true e = (refl, refl)
+both true false e = absurd (cc)
+both false t e = absurd (cc)
+
+-- the first opcode of a list in which no trim is a misfit, and those behind it
+abbrev FitsThen : ℕ → Opcode → List Opcode → Shape → Type 0
+FitsThen index opcode more shape = (fits opcode shape ≡ true) × (first_misfit (index + 1) more (left_by opcode shape) ≡ None)
+
+fits_then : (index : ℕ) (opcode : Opcode) (more : List Opcode) (shape : Shape) → first_misfit index (opcode ∷ more) shape ≡ None → FitsThen index opcode more shape
+unfolding first_misfit
+fits_then index opcode more shape fit =
+    ⊎_elim (λ (here : fits opcode shape ≡ true). (here, sym (cond-true _ _ _ here) ∙ fit)) (λ (not_here : fits opcode shape ≡ false). absurd (cc (sym (cond-false _ _ _ not_here) ∙ fit))) (cases_Bool (fits opcode shape))
+
+-- the stage of an opcode, if it has one, and those behind it are taken in turn
+one_then : (list : ℕ) (opcode : Opcode) (shape : Shape) (rest : List DevStage) → CanRunIn list opcode → (list ≤ 2 → shape.planes ≡ 1) → fits opcode shape ≡ true
+    → TakeInTurn takes_of shaped_of rest (left_by opcode shape) → TakeInTurn takes_of shaped_of (cons_option (opcode_stage opcode) rest) shape
+one_then list (FixConstant constant phase) shape rest runs single fit taken = (single runs.1, taken)
+one_then list (FixList phase points rects) shape rest runs single fit taken = (single runs.1, taken)
+one_then list (Trim rect) shape rest runs single fit taken =
+    let bottom = leb-true rect.bottom shape.rows (both (nat_le rect.bottom shape.rows) (nat_le rect.right shape.cols) fit).0 in
+    let right = leb-true rect.right shape.cols (both (nat_le rect.bottom shape.rows) (nat_le rect.right shape.cols) fit).1 in
+    (record { some = runs.0; inside = record { top = omega arith; left = omega arith; bottom = bottom; right = right } }, taken)
+one_then list (Map rect plane planes row_pitch col_pitch table) shape rest runs single fit taken = (tt, taken)
+one_then list (Skipped id) shape rest runs single fit taken = taken
+
+-- an opcode leaves the number of planes
+left_planes : (opcode : Opcode) (shape : Shape) → (left_by opcode shape).planes ≡ shape.planes
+left_planes (FixConstant constant phase) shape = refl
+left_planes (FixList phase points rects) shape = refl
+left_planes (Trim rect) shape = refl
+left_planes (Map rect plane planes row_pitch col_pitch table) shape = refl
+left_planes (Skipped id) shape = refl
+
+pub planes_left : (opcodes : List Opcode) (shape : Shape) → (left_after opcodes shape).planes ≡ shape.planes
+unfolding left_after
+planes_left [] shape = refl
+planes_left (opcode ∷ more) shape = planes_left more (left_by opcode shape) ∙ left_planes opcode shape
+
+-- an item, if it is there, before two lists
+consed : {X : Type 0} (o : Option X) (xs ys : List X) → cons_option o xs ++ ys ≡ cons_option o (xs ++ ys)
+consed None xs ys = refl
+consed (Some x) xs ys = refl
+
+-- the stages of a list are taken in turn from a shape of which no trim is a misfit, and lead to the shape that it leaves
+pub listed_then : (list index : ℕ) (opcodes : List Opcode) (shape : Shape) (rest : List DevStage) → All (CanRunIn list) opcodes → (list ≤ 2 → shape.planes ≡ 1) → first_misfit index opcodes shape ≡ None
+    → TakeInTurn takes_of shaped_of rest (left_after opcodes shape) → TakeInTurn takes_of shaped_of (listed opcodes ++ rest) shape
+unfolding listed, left_after
+listed_then list index [] shape rest runs single fit taken = taken
+listed_then list index (opcode ∷ more) shape rest runs single fit taken =
+    let here = fits_then index opcode more shape fit in
+    let behind = listed_then list (index + 1) more (left_by opcode shape) rest (All-tail (CanRunIn list) opcode more runs) (λ low. left_planes opcode shape ∙ single low) here.1 taken in
+    subst (λ (stages : List DevStage). TakeInTurn takes_of shaped_of stages shape) (sym (consed (opcode_stage opcode) (listed more) rest))
+    (one_then list opcode shape (listed more ++ rest) (All-head (CanRunIn list) opcode more runs) single here.0 behind)
