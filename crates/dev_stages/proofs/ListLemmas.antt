@@ -1,18 +1,19 @@
 -- Walks over the opcodes of a list, and the shapes that their stages take.
-use Rattle.std.proofs.Common.{◌≡◌, ℕ, ◌+◌, ◌*◌, ◌%◌, ◌<◌, ◌≤◌, ◌⊎◌, ⊎_elim, ◌&&◌, Bool, true, false, nat_le, if◌then◌else◌, All, List, [], ◌∷◌, ◌++◌, slice_index, Option, None, Some, drop, drop-cons, get_or, add-one, length, refl, sym, ◌∙◌, ap, subst, arith}
+use Rattle.std.proofs.Common.{◌≡◌, ℕ, ◌+◌, ◌*◌, ◌%◌, ◌<◌, ◌≤◌, ◌⊎◌, ⊎_elim, inl, inr, ◌&&◌, Bool, true, false, nat_le, All, List, [], ◌∷◌, ◌++◌, slice_index, Option, None, Some, drop, drop-cons, get_or, add-one, length, refl, sym, ◌∙◌, ap, subst, arith}
 use Rattle.std.specs.List.{cons_option}
 use Rattle.std.proofs.lemmas.Bool.{cases_Bool, cases_lt, cond-false, cond-true, leb-true}
-use Rattle.std.proofs.lemmas.List.{drop_all}
-use Rattle.std.proofs.lemmas.List.Elements.{All-get_or, All-head, All-tail}
-use Rattle.plane_view.specs.declared.Rect.{Rect}
+use Rattle.std.specs.Option.{option_to_list}
+use Rattle.std.proofs.lemmas.List.{append_assoc, drop_all}
+use Rattle.std.proofs.lemmas.List.Elements.{All-get_or, All-head, All-tail, All-weaker}
 use Rattle.plane_view.specs.declared.Shape.{Shape}
 use Rattle.stage_chain.specs.Chains.{TakeInTurn}
 use Rattle.opcode_list.specs.Params.{CanRun, CanRunIn}
-use Rattle.opcode_list.specs.Trims.{first_misfit, fits, left_after, left_by}
+use Rattle.opcode_list.specs.Trims.{IsPartOf, first_misfit, fits, left_after, left_by}
 use Rattle.opcode_list.specs.declared.opcode.Opcode.{Opcode}
 use Rattle.opcode_list.specs.declared.opcode.Opcode.TheVariants.{FixConstant, FixList, Map, Skipped, Trim}
-use Rattle.malvar.specs.Pattern.{IsBayer, colour_at}
-use Rattle.dev_stages.specs.Listed.{listed, moved, moved_by, opcode_stage}
+use Rattle.malvar.specs.Pattern.{IsBayer}
+use Rattle.opcode_list.proofs.TrimLemmas.{part_on}
+use Rattle.dev_stages.specs.Listed.{listed, moved_by, opcode_stage}
 use Rattle.dev_stages.specs.Members.{shaped_of, takes_of}
 use Rattle.dev_stages.specs.declared.stage.DevStage.{DevStage}
 
@@ -25,27 +26,38 @@ pub listed_on : (opcodes : List Opcode) (k : ℕ) (opcode : Opcode) → k < leng
 unfolding listed
 listed_on opcodes k opcode within is = ap listed (next opcodes k opcode within is)
 
+-- the stage of an opcode, if it has one, and those behind it
+consed : {X : Type 0} (o : Option X) (xs ys : List X) → cons_option o xs ++ ys ≡ cons_option o (xs ++ ys)
+consed None xs ys = refl
+consed (Some x) xs ys = refl
+
+appended : {X : Type 0} (xs : List X) (o : Option X) (ys : List X) → (xs ++ option_to_list o) ++ ys ≡ xs ++ cons_option o ys
+appended xs None ys = append_assoc xs [] ys
+appended xs (Some x) ys = append_assoc xs (x ∷ []) ys
+
+counted : {X : Type 0} (o : Option X) (xs : List X) → length (cons_option o xs) ≡ length (option_to_list o) + length xs
+counted None xs = omega arith
+counted (Some x) xs = omega arith
+
+-- stages so far, with the next one
+pub pushed_on : (opcodes : List Opcode) (k : ℕ) (opcode : Opcode) (before after all : List DevStage) → k < length opcodes → opcode ≡ get_or opcodes k opcode → after ≡ before ++ option_to_list (opcode_stage opcode)
+    → before ++ listed (drop k opcodes) ≡ all → after ++ listed (drop (k + 1) opcodes) ≡ all
+pushed_on opcodes k opcode before after all within is push so_far =
+    ap (λ xs. xs ++ listed (drop (k + 1) opcodes)) push
+    ∙ appended before (opcode_stage opcode) (listed (drop (k + 1) opcodes))
+    ∙ ap (λ xs. before ++ xs) (sym (listed_on opcodes k opcode within is))
+    ∙ so_far
+
+pub counted_on : (opcodes : List Opcode) (k : ℕ) (opcode : Opcode) → k < length opcodes → opcode ≡ get_or opcodes k opcode → length (listed (drop k opcodes)) ≡ length (option_to_list (opcode_stage opcode)) + length (listed (drop (k + 1) opcodes))
+counted_on opcodes k opcode within is = ap length (listed_on opcodes k opcode within is) ∙ counted (opcode_stage opcode) (listed (drop (k + 1) opcodes))
+
 pub all_listed : (opcodes : List Opcode) (k : ℕ) → length opcodes ≤ k → listed (drop k opcodes) ≡ []
 unfolding listed
 all_listed opcodes k all = ap listed (drop_all k opcodes all)
 
-pub moved_on : (opcodes : List Opcode) (k : ℕ) (opcode : Opcode) (cfa : List ℕ) → k < length opcodes → opcode ≡ get_or opcodes k opcode
-    → moved (drop k opcodes) cfa ≡ moved (drop (k + 1) opcodes) (moved_by opcode cfa)
-unfolding moved
-moved_on opcodes k opcode cfa within is = ap (λ xs. moved xs cfa) (next opcodes k opcode within is)
-
-pub all_moved : (opcodes : List Opcode) (k : ℕ) (cfa : List ℕ) → length opcodes ≤ k → moved (drop k opcodes) cfa ≡ cfa
-unfolding moved
-all_moved opcodes k cfa all = ap (λ xs. moved xs cfa) (drop_all k opcodes all)
-
 -- it can be run
 pub runs_at : (opcodes : List Opcode) (k : ℕ) (opcode : Opcode) → k < length opcodes → opcode ≡ get_or opcodes k opcode → All CanRun opcodes → CanRun opcode
 runs_at opcodes k opcode within is runs = subst CanRun (sym is) (All-get_or CanRun opcodes k opcode within runs)
-
--- a row or a column, and the next one, by what is left at a division by 2
-parities : (n : ℕ) → ((n % 2 ≡ 0) × ((1 + n) % 2 ≡ 1)) ⊎ ((n % 2 ≡ 1) × ((1 + n) % 2 ≡ 0))
-parities n =
-    ⊎_elim (λ (h : n % 2 < 1). in0 (omega (arith, h), omega (arith, h))) (λ (h : 1 ≤ n % 2). in1 (omega (arith, h), omega (arith, h))) (cases_lt (n % 2) 1)
 
 -- the colours of a pattern that is moved, by what is left of the rows and the columns at a division by 2
 abbrev moved_to : List ℕ → (top below left right : ℕ) → List ℕ
@@ -54,28 +66,28 @@ moved_to cfa top below left right =
 
 -- a pattern stays, or is moved by a row, by a column, or by both
 stays : (cfa : List ℕ) → IsBayer cfa → IsBayer (moved_to cfa 0 1 0 1)
-stays cfa (in0 e) = in0 (ap (λ xs. moved_to xs 0 1 0 1) e)
-stays cfa (in1 (in0 e)) = in1 (in0 (ap (λ xs. moved_to xs 0 1 0 1) e))
-stays cfa (in1 (in1 (in0 e))) = in1 (in1 (in0 (ap (λ xs. moved_to xs 0 1 0 1) e)))
-stays cfa (in1 (in1 (in1 e))) = in1 (in1 (in1 (ap (λ xs. moved_to xs 0 1 0 1) e)))
+stays cfa (inl e) = inl (ap (λ xs. moved_to xs 0 1 0 1) e)
+stays cfa (inr (inl e)) = inr (inl (ap (λ xs. moved_to xs 0 1 0 1) e))
+stays cfa (inr (inr (inl e))) = inr (inr (inl (ap (λ xs. moved_to xs 0 1 0 1) e)))
+stays cfa (inr (inr (inr e))) = inr (inr (inr (ap (λ xs. moved_to xs 0 1 0 1) e)))
 
 by_row : (cfa : List ℕ) → IsBayer cfa → IsBayer (moved_to cfa 1 0 0 1)
-by_row cfa (in0 e) = in1 (in1 (in1 (ap (λ xs. moved_to xs 1 0 0 1) e)))
-by_row cfa (in1 (in0 e)) = in1 (in1 (in0 (ap (λ xs. moved_to xs 1 0 0 1) e)))
-by_row cfa (in1 (in1 (in0 e))) = in1 (in0 (ap (λ xs. moved_to xs 1 0 0 1) e))
-by_row cfa (in1 (in1 (in1 e))) = in0 (ap (λ xs. moved_to xs 1 0 0 1) e)
+by_row cfa (inl e) = inr (inr (inr (ap (λ xs. moved_to xs 1 0 0 1) e)))
+by_row cfa (inr (inl e)) = inr (inr (inl (ap (λ xs. moved_to xs 1 0 0 1) e)))
+by_row cfa (inr (inr (inl e))) = inr (inl (ap (λ xs. moved_to xs 1 0 0 1) e))
+by_row cfa (inr (inr (inr e))) = inl (ap (λ xs. moved_to xs 1 0 0 1) e)
 
 by_column : (cfa : List ℕ) → IsBayer cfa → IsBayer (moved_to cfa 0 1 1 0)
-by_column cfa (in0 e) = in1 (in1 (in0 (ap (λ xs. moved_to xs 0 1 1 0) e)))
-by_column cfa (in1 (in0 e)) = in1 (in1 (in1 (ap (λ xs. moved_to xs 0 1 1 0) e)))
-by_column cfa (in1 (in1 (in0 e))) = in0 (ap (λ xs. moved_to xs 0 1 1 0) e)
-by_column cfa (in1 (in1 (in1 e))) = in1 (in0 (ap (λ xs. moved_to xs 0 1 1 0) e))
+by_column cfa (inl e) = inr (inr (inl (ap (λ xs. moved_to xs 0 1 1 0) e)))
+by_column cfa (inr (inl e)) = inr (inr (inr (ap (λ xs. moved_to xs 0 1 1 0) e)))
+by_column cfa (inr (inr (inl e))) = inl (ap (λ xs. moved_to xs 0 1 1 0) e)
+by_column cfa (inr (inr (inr e))) = inr (inl (ap (λ xs. moved_to xs 0 1 1 0) e))
 
 by_both : (cfa : List ℕ) → IsBayer cfa → IsBayer (moved_to cfa 1 0 1 0)
-by_both cfa (in0 e) = in1 (in0 (ap (λ xs. moved_to xs 1 0 1 0) e))
-by_both cfa (in1 (in0 e)) = in0 (ap (λ xs. moved_to xs 1 0 1 0) e)
-by_both cfa (in1 (in1 (in0 e))) = in1 (in1 (in1 (ap (λ xs. moved_to xs 1 0 1 0) e)))
-by_both cfa (in1 (in1 (in1 e))) = in1 (in1 (in0 (ap (λ xs. moved_to xs 1 0 1 0) e)))
+by_both cfa (inl e) = inr (inl (ap (λ xs. moved_to xs 1 0 1 0) e))
+by_both cfa (inr (inl e)) = inl (ap (λ xs. moved_to xs 1 0 1 0) e)
+by_both cfa (inr (inr (inl e))) = inr (inr (inr (ap (λ xs. moved_to xs 1 0 1 0) e)))
+by_both cfa (inr (inr (inr e))) = inr (inr (inl (ap (λ xs. moved_to xs 1 0 1 0) e)))
 
 -- a row or a column, and the next one, where the first is even or odd
 abbrev Parity : ℕ → Type 0
@@ -83,13 +95,13 @@ Parity n = ((0 ≡ n % 2) × (1 ≡ (1 + n) % 2)) ⊎ ((1 ≡ n % 2) × (0 ≡ (
 
 parity : (n : ℕ) → Parity n
 parity n =
-    ⊎_elim (λ (h : n % 2 < 1). in0 (omega (arith, h), omega (arith, h))) (λ (h : 1 ≤ n % 2). in1 (omega (arith, h), omega (arith, h))) (cases_lt (n % 2) 1)
+    ⊎_elim (λ (h : n % 2 < 1). inl (omega (arith, h), omega (arith, h))) (λ (h : 1 ≤ n % 2). inr (omega (arith, h), omega (arith, h))) (cases_lt (n % 2) 1)
 
 bayer_at : (cfa : List ℕ) (top left : ℕ) → IsBayer cfa → Parity top → Parity left → IsBayer (moved_to cfa (top % 2) ((1 + top) % 2) (left % 2) ((1 + left) % 2))
-bayer_at cfa top left is (in0 r) (in0 c) = subst IsBayer (λ i. moved_to cfa (r.0 i) (r.1 i) (c.0 i) (c.1 i)) (stays cfa is)
-bayer_at cfa top left is (in1 r) (in0 c) = subst IsBayer (λ i. moved_to cfa (r.0 i) (r.1 i) (c.0 i) (c.1 i)) (by_row cfa is)
-bayer_at cfa top left is (in0 r) (in1 c) = subst IsBayer (λ i. moved_to cfa (r.0 i) (r.1 i) (c.0 i) (c.1 i)) (by_column cfa is)
-bayer_at cfa top left is (in1 r) (in1 c) = subst IsBayer (λ i. moved_to cfa (r.0 i) (r.1 i) (c.0 i) (c.1 i)) (by_both cfa is)
+bayer_at cfa top left is (inl r) (inl c) = subst IsBayer (λ i. moved_to cfa (r.0 i) (r.1 i) (c.0 i) (c.1 i)) (stays cfa is)
+bayer_at cfa top left is (inr r) (inl c) = subst IsBayer (λ i. moved_to cfa (r.0 i) (r.1 i) (c.0 i) (c.1 i)) (by_row cfa is)
+bayer_at cfa top left is (inl r) (inr c) = subst IsBayer (λ i. moved_to cfa (r.0 i) (r.1 i) (c.0 i) (c.1 i)) (by_column cfa is)
+bayer_at cfa top left is (inr r) (inr c) = subst IsBayer (λ i. moved_to cfa (r.0 i) (r.1 i) (c.0 i) (c.1 i)) (by_both cfa is)
 
 pub bayer_on : (opcode : Opcode) (cfa : List ℕ) → IsBayer cfa → IsBayer (moved_by opcode cfa)
 bayer_on (FixConstant constant phase) cfa is = is
@@ -137,18 +149,25 @@ unfolding left_after
 planes_left [] shape = refl
 planes_left (opcode ∷ more) shape = planes_left more (left_by opcode shape) ∙ left_planes opcode shape
 
--- an item, if it is there, before two lists
-consed : {X : Type 0} (o : Option X) (xs ys : List X) → cons_option o xs ++ ys ≡ cons_option o (xs ++ ys)
-consed None xs ys = refl
-consed (Some x) xs ys = refl
-
 -- the stages of a list are taken in turn from a shape of which no trim is a misfit, and lead to the shape that it leaves
 pub listed_then : (list index : ℕ) (opcodes : List Opcode) (shape : Shape) (rest : List DevStage) → All (CanRunIn list) opcodes → (list ≤ 2 → shape.planes ≡ 1) → first_misfit index opcodes shape ≡ None
     → TakeInTurn takes_of shaped_of rest (left_after opcodes shape) → TakeInTurn takes_of shaped_of (listed opcodes ++ rest) shape
-unfolding listed, left_after
+unfolding listed left_after
 listed_then list index [] shape rest runs single fit taken = taken
 listed_then list index (opcode ∷ more) shape rest runs single fit taken =
     let here = fits_then index opcode more shape fit in
     let behind = listed_then list (index + 1) more (left_by opcode shape) rest (All-tail (CanRunIn list) opcode more runs) (λ low. left_planes opcode shape ∙ single low) here.1 taken in
     subst (λ (stages : List DevStage). TakeInTurn takes_of shaped_of stages shape) (sym (consed (opcode_stage opcode) (listed more) rest))
     (one_then list opcode shape (listed more ++ rest) (All-head (CanRunIn list) opcode more runs) single here.0 behind)
+
+-- what holds of the opcodes of a list holds of each that can be run
+pub all_run : (list : ℕ) (opcodes : List Opcode) → All (CanRunIn list) opcodes → All CanRun opcodes
+all_run list opcodes runs = All-weaker (CanRunIn list) CanRun (λ opcode (run : CanRunIn list opcode). run.0) opcodes runs
+
+-- what a list leaves is a part, where no trim is a misfit
+pub left_part : (index : ℕ) (opcodes : List Opcode) (whole shape : Shape) → All CanRun opcodes → first_misfit index opcodes shape ≡ None → IsPartOf whole shape → IsPartOf whole (left_after opcodes shape)
+unfolding left_after
+left_part index [] whole shape runs fit part = part
+left_part index (opcode ∷ more) whole shape runs fit part =
+    let here = fits_then index opcode more shape fit in
+    left_part (index + 1) more whole (left_by opcode shape) (All-tail CanRun opcode more runs) here.1 (part_on opcode whole shape (All-head CanRun opcode more runs) here.0 part)

@@ -1,4 +1,6 @@
 pub mod Members
 pub mod Laws
+pub mod Listed
 pub mod Plannable
 pub mod Plans
+pub mod Changes

@@ -2,6 +2,7 @@
 -- columns in a moved pattern is this project's own.
 use Rattle.std.specs.Prelude.{ℕ, ◌+◌, List, [], ◌∷◌, Option, None, Some}
 use Rattle.std.specs.List.{filter_map}
+use Rattle.plane_view.specs.declared.Rect.{Rect}
 use Rattle.opcode_list.specs.declared.opcode.Opcode.{Opcode}
 use Rattle.opcode_list.specs.declared.opcode.Opcode.TheVariants.{FixConstant, FixList, Map, Skipped, Trim}
 use Rattle.malvar.specs.Pattern.{colour_at}
@@ -22,17 +23,21 @@ opcode_stage (Skipped id) = None
 unfoldable pub listed : List Opcode → List DevStage
 listed opcodes = filter_map opcode_stage opcodes
 
--- the pattern of 2 by 2 of what an opcode leaves: after a trim, row i and column j have the colour that row i + top and
--- column j + left had
-abbrev pub moved_by : Opcode → List ℕ → List ℕ
-moved_by (FixConstant constant phase) cfa = cfa
-moved_by (FixList phase points rects) cfa = cfa
-moved_by (Trim rect) cfa =
+-- the pattern of 2 by 2 of the part of a plane that a rectangle has: row i and column j of the part are row i + top and
+-- column j + left of the plane
+abbrev pub pattern_from : Rect → List ℕ → List ℕ
+pattern_from rect cfa =
     colour_at cfa rect.top rect.left
     ∷ colour_at cfa rect.top (1 + rect.left)
     ∷ colour_at cfa (1 + rect.top) rect.left
     ∷ colour_at cfa (1 + rect.top) (1 + rect.left)
     ∷ []
+
+-- the pattern of what an opcode leaves of a plane
+abbrev pub moved_by : Opcode → List ℕ → List ℕ
+moved_by (FixConstant constant phase) cfa = cfa
+moved_by (FixList phase points rects) cfa = cfa
+moved_by (Trim rect) cfa = pattern_from rect cfa
 moved_by (Map rect plane planes row_pitch col_pitch table) cfa = cfa
 moved_by (Skipped id) cfa = cfa
 

@@ -1,6 +1,6 @@
 -- The stages of a development in their order (DNG 1.6, chapters 5 and 6, for linear values and colours). The order, the
 -- settings and the refusals are this project's own.
-use Rattle.std.specs.Prelude.{ℕ, ◌==◌, if◌then◌else◌, ℤ, pos, int_lt, List, [], ◌∷◌, map, slice_index, Option, None, Some, option_map, unwrap_or, Result, Ok, Err}
+use Rattle.std.specs.Prelude.{ℕ, ◌==◌, ◌++◌, if◌then◌else◌, ℤ, pos, int_lt, List, [], ◌∷◌, map, slice_index, Option, None, Some, option_map, unwrap_or, Result, Ok, Err}
 use Rattle.std.specs.List.{range_with_len}
 use Rattle.std.specs.Option.{option_map_or}
 use Rattle.plane_view.specs.Rectangles.{height, width}
@@ -20,8 +20,9 @@ use Rattle.tone_table.specs.Tones.{toned_at}
 use Rattle.dev_settings.specs.declared.settings.MatrixChoice.{MatrixChoice}
 use Rattle.dev_settings.specs.declared.settings.MatrixChoice.TheVariants as choice
 use Rattle.dev_settings.specs.declared.settings.Settings.{Settings}
-use Rattle.dev_stages.specs.declared.planning.PlanFault.{PlanFault}
-use Rattle.dev_stages.specs.declared.planning.PlanFault.TheVariants as fault
+use Rattle.dev_stages.specs.Listed.{listed, moved}
+use Rattle.dev_stages.specs.declared.fault.PlanFault.{PlanFault}
+use Rattle.dev_stages.specs.declared.fault.PlanFault.TheVariants as fault
 use Rattle.dev_stages.specs.declared.stage.DevStage.{DevStage}
 use Rattle.dev_stages.specs.declared.stage.DevStage.TheVariants.{Balance, Crop, Demosaic, Linearise, Matrix, Tone}
 
@@ -58,17 +59,44 @@ chosen_matrix colour (choice.Own entries) = Some entries
 abbrev pub levels_under : Frame → Settings → Levels
 levels_under frame settings = under frame.levels settings.black settings.white
 
--- the stages of a frame, in their order, by settings and a matrix
+-- how raw values become linear
+abbrev pub linear_stage : Frame → Settings → DevStage
+linear_stage frame settings =
+    Linearise (parameters (levels_under frame settings) (height frame.active) (width frame.active))
+
+-- demosaicing under the pattern that the trims of list 2 leave
+abbrev pub demosaic_stage : Frame → Settings → DevStage
+demosaic_stage frame settings = Demosaic (mosaic settings.demosaic (moved frame.list2 frame.cfa))
+
+-- white balance and exposure
+abbrev pub balance_stage : Frame → Settings → DevStage
+balance_stage frame settings =
+    Balance (record { gains = unwrap_or settings.wb frame.colour.gains; exposure = settings.exposure })
+
+-- the tone curve
+abbrev pub tone_stage : Settings → DevStage
+tone_stage settings = Tone (curve_table settings.tone)
+
+-- the stages of a frame in their order: list 1, the active area, linear values, list 2, demosaicing, list 3, the default
+-- crop, balance, matrix, tone
+unfoldable pub in_order : Frame → (linear demosaic balance matrix tone : DevStage) → List DevStage
+in_order frame linear demosaic balance matrix tone =
+    listed frame.list1
+    ++ (Crop (record { rect = frame.active })
+    ∷ linear
+    ∷ (listed frame.list2
+    ++ (demosaic
+    ∷ (listed frame.list3
+    ++ (Crop (record { rect = frame.crop })
+    ∷ balance
+    ∷ matrix
+    ∷ tone
+    ∷ [])))))
+
+-- the stages of a frame by settings and a matrix
 unfoldable pub stages_with : Frame → Settings → List ℤ → List DevStage
 stages_with frame settings matrix =
-    Crop (record { rect = frame.active })
-    ∷ Linearise (parameters (levels_under frame settings) (height frame.active) (width frame.active))
-    ∷ Demosaic (mosaic settings.demosaic frame.cfa)
-    ∷ Crop (record { rect = frame.crop })
-    ∷ Balance (record { gains = unwrap_or settings.wb frame.colour.gains; exposure = settings.exposure })
-    ∷ Matrix matrix
-    ∷ Tone (curve_table settings.tone)
-    ∷ []
+    in_order frame (linear_stage frame settings) (demosaic_stage frame settings) (balance_stage frame settings) (Matrix matrix) (tone_stage settings)
 
 -- how far white is above the greatest black under settings
 abbrev pub span_under : Frame → Settings → ℤ

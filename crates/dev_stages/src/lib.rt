@@ -1,10 +1,14 @@
 //! The stages of a development, and which of them a frame takes under settings.
 #![tactic(auto)]
 
+mod fault;
+mod listed;
+mod matrices;
 mod planning;
 mod stage;
 #[cfg(test)]
 mod tests;
 
-pub use planning::{PlanFault, plan};
+pub use fault::PlanFault;
+pub use planning::{plan, stage_of};
 pub use stage::DevStage;

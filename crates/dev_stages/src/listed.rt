@@ -1,9 +1,11 @@
 //! The stages that opcode lists ask for, and how their trims move the pattern.
 
 ghost use Rattle.std.specs.Prelude.{◌≡◌, ◌≤◌, ◌++◌, All, IfOk, length};
+ghost use Rattle.std.specs.Option.{option_to_list};
+ghost use Rattle.plane_view.specs.Rectangles.{IsNonEmpty};
 ghost use Rattle.opcode_list.specs.Params.{CanRun};
 ghost use Rattle.malvar.specs.Pattern.{IsBayer, colour_at};
-ghost use Rattle.dev_stages.specs.Listed.{listed, moved, moved_by, opcode_stage};
+ghost use Rattle.dev_stages.specs.Listed.{listed, moved, moved_by, opcode_stage, pattern_from};
 
 use crate::DevStage;
 use opcode_list::Opcode;
@@ -39,11 +41,24 @@ fn opcode_stage(alloc: Global, opcode: &Opcode) -> Result<Option<DevStage>, Allo
             table,
         } => {
             let table = table.as_slice();
-            let stage = MapTable::new(alloc, *rect, *plane, *planes, *row_pitch, *col_pitch, table)?;
+            let stage = MapTable::new(
+                alloc, *rect, *plane, *planes, *row_pitch, *col_pitch, table,
+            )?;
             Ok(Some(DevStage::Map(stage)))
         }
         Opcode::Skipped { .. } => Ok(None),
     }
+}
+
+/// Appends the stage of an opcode, if it has one.
+fn push_opcode(alloc: Global, opcode: &Opcode, stages: &mut Vec<DevStage>) -> Result<(), AllocError>
+    requires { CanRun opcode.now }
+    ensures { IfOk result (λ _. stages.new.items ≡ stages.old.items ++ option_to_list (opcode_stage opcode.now)) }
+{
+    if let Some(stage) = opcode_stage(alloc, opcode)? {
+        stages.push(stage)?;
+    }
+    Ok(())
 }
 
 /// Appends the stages of the opcodes of a list, in their order.
@@ -60,11 +75,20 @@ pub(crate) fn push_listed(
     ensures { IfOk result (λ _. stages.new.items ≡ stages.old.items ++ listed opcodes.now) }
 {
     for opcode in opcodes {
-        if let Some(stage) = opcode_stage(alloc, opcode)? {
-            stages.push(stage)?;
-        }
+        push_opcode(alloc, opcode, stages)?;
     }
     Ok(())
+}
+
+/// How many stages an opcode has.
+fn count_of(opcode: &Opcode) -> u32
+    ensures count { result ≡ length (option_to_list (opcode_stage opcode.now)) }
+    ensures few { result ≤ 1 }
+{
+    match opcode {
+        Opcode::Skipped { .. } => 0,
+        _ => 1,
+    }
 }
 
 /// How many stages the opcodes of a list have.
@@ -75,9 +99,7 @@ pub(crate) fn stage_count(opcodes: &[Opcode]) -> u32
 {
     let mut count = 0;
     for opcode in opcodes {
-        if !matches!(opcode, Opcode::Skipped { .. }) {
-            count += 1;
-        }
+        count += count_of(opcode);
     }
     count
 }
@@ -89,15 +111,12 @@ fn colour_at(cfa: [u8; 4], r: u32, c: u32) -> u8
     cfa[(r % 2 * 2 + c % 2) as usize]
 }
 
-/// The pattern of what an opcode leaves of a plane.
-fn moved_by(opcode: &Opcode, cfa: [u8; 4]) -> [u8; 4]
-    requires { CanRun opcode.now }
-    ensures { result ≡ moved_by opcode.now cfa }
+/// The pattern of the part of a plane that a rectangle has.
+fn pattern_from(rect: Rect, cfa: [u8; 4]) -> [u8; 4]
+    requires { IsNonEmpty rect }
+    ensures { result ≡ pattern_from rect cfa }
 {
-    let Opcode::Trim { rect } = opcode else {
-        return cfa;
-    };
-    let Rect { top, left, .. } = *rect;
+    let Rect { top, left, .. } = rect;
     [
         colour_at(cfa, top, left),
         colour_at(cfa, top, 1 + left),
@@ -106,16 +125,28 @@ fn moved_by(opcode: &Opcode, cfa: [u8; 4]) -> [u8; 4]
     ]
 }
 
+/// The pattern of what an opcode leaves of a plane.
+fn moved_by(opcode: &Opcode, cfa: [u8; 4]) -> [u8; 4]
+    requires { CanRun opcode.now }
+    ensures pattern { result ≡ moved_by opcode.now cfa }
+    ensures bayer { IsBayer cfa → IsBayer result }
+{
+    match opcode {
+        Opcode::Trim { rect } => pattern_from(*rect, cfa),
+        _ => cfa,
+    }
+}
+
 /// The pattern of what the opcodes of a list leave of a plane: each trim moves it.
+#[tactic(auto, unfolding(crate::specs::Listed::moved))]
 pub(crate) fn moved(opcodes: &[Opcode], cfa: [u8; 4]) -> [u8; 4]
     requires can_run { All CanRun opcodes.now }
     requires bayer { IsBayer cfa }
     ensures pattern { result ≡ moved opcodes.now cfa }
     ensures bayer { IsBayer result }
 {
-    let mut now = cfa;
-    for opcode in opcodes {
-        now = moved_by(opcode, now);
+    match opcodes {
+        [opcode, more @ ..] => moved(more, moved_by(opcode, cfa)),
+        [] => cfa,
     }
-    now
 }

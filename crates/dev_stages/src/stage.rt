@@ -3,7 +3,7 @@
 use colour_matrix::{Balance, Matrix};
 use linearise::Linearise;
 use malvar::Demosaic;
-use opcode_stages::Crop;
+use opcode_stages::{Crop, FixConstant, FixList, MapTable};
 use plane_view::{Rect, Shape, TileMut, View};
 use stage_core::{Stage, Steps};
 use std::sync::ledger::Ledger;
@@ -12,7 +12,13 @@ use tone_table::Tone;
 /// A stage of a development, of any kind. Contracts see the stage's parameters.
 #[derive(Debug, PartialEq, Drop)]
 pub enum DevStage {
-    /// The crop to the active area, or to the default crop.
+    /// The mending of pixels that hold a number.
+    FixConstant(FixConstant),
+    /// The mending of listed pixels.
+    FixList(FixList),
+    /// The table that samples are mapped through.
+    Map(MapTable),
+    /// The crop of a trim, to the active area, or to the default crop.
     Crop(Crop),
     /// Linear values of raw ones.
     Linearise(Linearise),
@@ -40,6 +46,9 @@ impl Stage for DevStage {
 
     fn shape(&self, input: Shape) -> Option<Shape> {
         match self {
+            DevStage::FixConstant(stage) => stage.shape(input),
+            DevStage::FixList(stage) => stage.shape(input),
+            DevStage::Map(stage) => stage.shape(input),
             DevStage::Crop(stage) => stage.shape(input),
             DevStage::Linearise(stage) => stage.shape(input),
             DevStage::Demosaic(stage) => stage.shape(input),
@@ -51,6 +60,9 @@ impl Stage for DevStage {
 
     fn need(&self, input: Shape, rect: Rect) -> Rect {
         match self {
+            DevStage::FixConstant(stage) => stage.need(input, rect),
+            DevStage::FixList(stage) => stage.need(input, rect),
+            DevStage::Map(stage) => stage.need(input, rect),
             DevStage::Crop(stage) => stage.need(input, rect),
             DevStage::Linearise(stage) => stage.need(input, rect),
             DevStage::Demosaic(stage) => stage.need(input, rect),
@@ -68,6 +80,9 @@ impl Stage for DevStage {
         work: &mut Steps<L>,
     ) {
         match self {
+            DevStage::FixConstant(stage) => stage.run(input, whole, out, work),
+            DevStage::FixList(stage) => stage.run(input, whole, out, work),
+            DevStage::Map(stage) => stage.run(input, whole, out, work),
             DevStage::Crop(stage) => stage.run(input, whole, out, work),
             DevStage::Linearise(stage) => stage.run(input, whole, out, work),
             DevStage::Demosaic(stage) => stage.run(input, whole, out, work),

@@ -13,6 +13,9 @@ use tiff_write::Field;
 /// The name of a stage's kind.
 fn name(stage: &DevStage) -> &'static str {
     match stage {
+        DevStage::FixConstant(_) => "constant",
+        DevStage::FixList(_) => "list",
+        DevStage::Map(_) => "map",
         DevStage::Crop(_) => "crop",
         DevStage::Linearise(_) => "linearise",
         DevStage::Demosaic(_) => "demosaic",

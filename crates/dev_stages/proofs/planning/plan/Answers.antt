@@ -1,20 +1,32 @@
-use Rattle.std.proofs.Common.{rules, ◌≡◌, List, Ok, length, sym, ◌∙◌, ap}
+use Rattle.std.proofs.Common.{◌∷◌, ◌++◌, [], List, Ok, sym, ◌∙◌, ap}
+use Rattle.std.proofs.lemmas.Result.{err_from_is_err_and}
 use Rattle.dev_stages.specs.declared.stage.DevStage.{DevStage}
-use Rattle.dev_stages.proofs.PlanLemmas.{gains_in_range, planned_so, stages_are}
+use Rattle.dev_stages.specs.declared.stage.DevStage.TheVariants as stage
+use Rattle.dev_stages.specs.Listed.{listed}
+use Rattle.dev_stages.specs.Plans.{balance_stage, demosaic_stage, tone_stage}
+use Rattle.dev_stages.proofs.ChangeLemmas.{planned_low, planned_ok}
+use Rattle.dev_stages.proofs.PlanLemmas.{in_parts, takes_planned}
 use Rattle.dev_stages.proofs.planning.plan.Goals as goal
 
-pub new-requires-6-clause-gains : goal.new-requires-6-clause-gains
-new-requires-6-clause-gains c =
-    let three : length c.unwrap_or-gains.result ≡ 3 = search rules in
-    gains_in_range c.args.settings.now.wb c.args.frame.now.colour.gains c.unwrap_or-gains.result c.requires.settings.wb three c.requires.frame.colour.gains c.unwrap_or-gains.ensures
+pub returns-in_err-linear-clause-fault : goal.returns-in_err-linear-clause-fault
+returns-in_err-linear-clause-fault c =
+    let p = err_from_is_err_and c.from_residual-in_err-linear.result c.from_residual-in_err-linear.ensures.1 in
+    rw (p.1, p.2) (λ not_memory. planned_low c.args.frame.now c.args.settings.now c.in_ok-matrix.matrix c.in_err-linear.field-0.0 c.in_ok-matrix.ensures.stage (c.in_err-linear.ensures.fault not_memory))
 
 pub returns-clause-stages : goal.returns-clause-stages
 returns-clause-stages c =
     let frame = c.args.frame.now in
     let settings = c.args.settings.now in
-    let matrix = c.in-Some.matrix in
-    planned_so frame settings matrix (sym c.chosen_matrix.ensures ∙ c.in-Some.is) c.in-Ok.ensures.above
-    ∙ ap (λ (stages : List DevStage). Ok stages)
-    (stages_are frame settings matrix c.new-3.result c.new-5.result c.in-Ok.linear c.new-4.result c.unwrap_or-gains.result c.new-6.result c.in-Ok-new.tone
-    c.new-3.ensures c.in-Ok.ensures.stage c.new-4.ensures.kind c.new-4.ensures.pattern c.new-5.ensures c.unwrap_or-gains.ensures c.new-6.ensures c.in-Ok-new.ensures
-    ∙ sym c.in-Ok-vec.ensures.items)
+    let linear = c.in_ok-linear.linear in
+    let matrix = c.in_ok-matrix.matrix in
+    let first = c.in_ok-stages.ensures in
+    let second = c.in_ok-push_coloured.ensures in
+    let third = c.in_ok-push_last.ensures in
+    let coloured : List DevStage = demosaic_stage frame settings ∷ (listed frame.list3 ++ (stage.Crop (record { rect = frame.crop }) ∷ [])) in
+    let last : List DevStage = balance_stage frame settings ∷ matrix ∷ tone_stage settings ∷ [] in
+    let all = third ∙ ap (λ (xs : List DevStage). xs ++ last) (second ∙ ap (λ (xs : List DevStage). xs ++ coloured) first) ∙ in_parts frame linear (demosaic_stage frame settings) (balance_stage frame settings) matrix (tone_stage settings) in
+    planned_ok frame settings matrix linear c.in_ok-matrix.ensures.stage c.in_ok-linear.ensures.stage ∙ ap (λ (xs : List DevStage). Ok xs) (sym all)
+
+pub returns-clause-chain : goal.returns-clause-chain
+returns-clause-chain c =
+    takes_planned c.args.frame.now c.args.settings.now c.push_last.new.stages.items c.requires.frame (returns-clause-stages c)

@@ -1,0 +1,233 @@
+-- What a change of settings does to the stages of a frame.
+use Rattle.std.proofs.Common.{◌≡◌, ℕ, ◌+◌, ◌-◌, ◌≤◌, Bool, true, false, if◌then◌else◌, ℤ, pos, int_lt, List, [], ◌∷◌, ◌++◌, length, length-append, slice_set, Option, None, Some, Result, Ok, Err, refl, sym, ◌∙◌, ap, subst, arith}
+use Rattle.std.proofs.lemmas.Bool.{cond-true}
+use Rattle.std.proofs.lemmas.List.{set-append_right}
+use Rattle.dng_tags.specs.declared.record.Frame.{Frame}
+use Rattle.dev_settings.specs.Settings.{changed}
+use Rattle.dev_settings.specs.declared.settings.Change.{Change}
+use Rattle.dev_settings.specs.declared.settings.Change.TheVariants as key
+use Rattle.dev_settings.specs.declared.settings.Settings.{Settings}
+use Rattle.dev_stages.specs.Changes.{Refuses, Replaces, balance_number, demosaic_number, linear_number, linear_or, matrix_or, number_of, replaced, touched}
+use Rattle.dev_stages.specs.Listed.{listed}
+use Rattle.dev_stages.specs.Plans.{balance_stage, chosen_matrix, demosaic_stage, in_order, linear_stage, planned, planned_with, span_under, stages_with, tone_stage}
+use Rattle.dev_stages.specs.declared.fault.PlanFault.{PlanFault}
+use Rattle.dev_stages.specs.declared.fault.PlanFault.TheVariants as fault
+use Rattle.dev_stages.specs.declared.stage.DevStage.{DevStage}
+use Rattle.dev_stages.specs.declared.stage.DevStage.TheVariants.{Crop, Matrix}
+
+-- the fault of an answer, and its value, for answers that have one
+fault_is : {X : Type 0} (one other : PlanFault) → ◌≡◌ {A = Result X PlanFault} (Err one) (Err other) → one ≡ other
+fault_is one other e = cc
+
+ok_is : {X : Type 0} (one other : X) → ◌≡◌ {A = Result X PlanFault} (Ok one) (Ok other) → one ≡ other
+ok_is one other e = cc
+
+-- stages in their order, by the matrix and the linear values that there are
+abbrev with_these : Frame → Settings → (matrix linear : DevStage) → List DevStage
+with_these frame settings matrix linear =
+    in_order frame linear (demosaic_stage frame settings) (balance_stage frame settings) matrix (tone_stage settings)
+
+pub planned_ok : (frame : Frame) (settings : Settings) (matrix linear : DevStage) → matrix_or (chosen_matrix frame.colour settings.matrix) ≡ Ok matrix → linear_or frame settings ≡ Ok linear → planned frame settings ≡ Ok (with_these frame settings matrix linear)
+unfolding stages_with
+planned_ok frame settings matrix linear = by_matrix (chosen_matrix frame.colour settings.matrix)
+  where
+    by_span : (entries : List ℤ) (above : Bool) → ◌≡◌ {A = Result DevStage PlanFault} (Ok (Matrix entries)) (Ok matrix) → (if above then Ok (linear_stage frame settings) else Err fault.Levels) ≡ Ok linear
+        → (if above then Ok (stages_with frame settings entries) else Err fault.Levels) ≡ Ok (with_these frame settings matrix linear)
+    by_span entries true m l = λ i. Ok (with_these frame settings (ok_is (Matrix entries) matrix m i) (ok_is (linear_stage frame settings) linear l i))
+    by_span entries false m l = absurd (cc)
+
+    by_matrix : (chosen : Option (List ℤ)) → matrix_or chosen ≡ Ok matrix → linear_or frame settings ≡ Ok linear → planned_with frame settings chosen ≡ Ok (with_these frame settings matrix linear)
+    by_matrix None m l = absurd (cc)
+    by_matrix (Some entries) m l = by_span entries (int_lt (pos 0) (span_under frame settings)) m l
+
+pub planned_none : (frame : Frame) (settings : Settings) (refusal : PlanFault) → matrix_or (chosen_matrix frame.colour settings.matrix) ≡ Err refusal → planned frame settings ≡ Err refusal
+planned_none frame settings refusal = by_matrix (chosen_matrix frame.colour settings.matrix)
+  where
+    by_matrix : (chosen : Option (List ℤ)) → matrix_or chosen ≡ Err refusal → planned_with frame settings chosen ≡ Err refusal
+    by_matrix None m = ap Err (fault_is fault.Matrix refusal m)
+    by_matrix (Some entries) m = absurd (cc)
+
+pub planned_low : (frame : Frame) (settings : Settings) (matrix : DevStage) (refusal : PlanFault) → matrix_or (chosen_matrix frame.colour settings.matrix) ≡ Ok matrix → linear_or frame settings ≡ Err refusal → planned frame settings ≡ Err refusal
+planned_low frame settings matrix refusal = by_matrix (chosen_matrix frame.colour settings.matrix)
+  where
+    by_span : (entries : List ℤ) (above : Bool) → (if above then Ok (linear_stage frame settings) else Err fault.Levels) ≡ Err refusal
+        → (if above then Ok (stages_with frame settings entries) else Err fault.Levels) ≡ Err refusal
+    by_span entries true l = absurd (cc)
+    by_span entries false l = ap Err (fault_is fault.Levels refusal l)
+
+    by_matrix : (chosen : Option (List ℤ)) → matrix_or chosen ≡ Ok matrix → linear_or frame settings ≡ Err refusal → planned_with frame settings chosen ≡ Err refusal
+    by_matrix None m l = absurd (cc)
+    by_matrix (Some entries) m l = by_span entries (int_lt (pos 0) (span_under frame settings)) l
+
+-- what holds of settings under which a frame has stages
+pub record Has (frame : Frame) (settings : Settings) (stages : List DevStage) : Type 0 where
+  pub matrix : List ℤ
+  pub chosen : chosen_matrix frame.colour settings.matrix ≡ Some matrix
+  pub above : int_lt (pos 0) (span_under frame settings) ≡ true
+  pub are : stages_with frame settings matrix ≡ stages
+
+pub has : (frame : Frame) (settings : Settings) (stages : List DevStage) → planned frame settings ≡ Ok stages → Has frame settings stages
+has frame settings stages = by_matrix (chosen_matrix frame.colour settings.matrix) refl
+  where
+    by_span : (matrix : List ℤ) → chosen_matrix frame.colour settings.matrix ≡ Some matrix → (above : Bool) → int_lt (pos 0) (span_under frame settings) ≡ above
+        → (if above then Ok (stages_with frame settings matrix) else Err fault.Levels) ≡ Ok stages → Has frame settings stages
+    by_span matrix chosen true above e = record { matrix = matrix; chosen = chosen; above = above; are = ok_is (stages_with frame settings matrix) stages e }
+    by_span matrix chosen false above e = absurd (cc)
+
+    by_matrix : (o : Option (List ℤ)) → chosen_matrix frame.colour settings.matrix ≡ o → planned_with frame settings o ≡ Ok stages → Has frame settings stages
+    by_matrix None chosen e = absurd (cc)
+    by_matrix (Some matrix) chosen e = by_span matrix chosen (int_lt (pos 0) (span_under frame settings)) refl e
+
+-- an item behind others is replaced
+past : (xs ys zs : List DevStage) (i j : ℕ) (stage : DevStage) → i ≡ length xs + j → slice_set ys j stage ≡ zs → slice_set (xs ++ ys) i stage ≡ xs ++ zs
+past xs ys zs i j stage at here =
+    set-append_right xs ys (length xs) i stage refl (omega (arith, at))
+    ∙ ap (λ (k : ℕ). xs ++ slice_set ys k stage) (omega (arith, at))
+    ∙ ap (λ (rest : List DevStage). xs ++ rest) here
+
+-- the stages between lists 1 and 2
+abbrev first_two : Frame → DevStage → List DevStage
+first_two frame linear = Crop (record { rect = frame.active }) ∷ linear ∷ []
+
+linear_on : (frame : Frame) (linear demosaic balance matrix tone new : DevStage) → replaced (linear_number frame) new (in_order frame linear demosaic balance matrix tone) ≡ in_order frame new demosaic balance matrix tone
+unfolding in_order
+linear_on frame linear demosaic balance matrix tone new =
+    past (listed frame.list1) _ _ (linear_number frame - 1) 1 new (omega arith) refl
+
+demosaic_on : (frame : Frame) (linear demosaic balance matrix tone new : DevStage) → replaced (demosaic_number frame) new (in_order frame linear demosaic balance matrix tone) ≡ in_order frame linear new balance matrix tone
+unfolding in_order
+demosaic_on frame linear demosaic balance matrix tone new =
+    past (listed frame.list1) _ _ (demosaic_number frame - 1) (length (listed frame.list2) + 2) new (omega arith)
+    (past (first_two frame linear) _ _ (length (listed frame.list2) + 2) (length (listed frame.list2)) new (omega arith)
+    (past (listed frame.list2) _ _ (length (listed frame.list2)) 0 new (omega arith) refl))
+
+-- a stage behind list 3
+last_on : (frame : Frame) (linear demosaic : DevStage) (ys zs : List DevStage) (i j : ℕ) (new : DevStage) → i ≡ length (listed frame.list1) + length (listed frame.list2) + length (listed frame.list3) + 3 + j → slice_set ys j new ≡ zs
+    → slice_set (listed frame.list1 ++ (first_two frame linear ++ (listed frame.list2 ++ ((demosaic ∷ []) ++ (listed frame.list3 ++ ys))))) i new
+    ≡ listed frame.list1 ++ (first_two frame linear ++ (listed frame.list2 ++ ((demosaic ∷ []) ++ (listed frame.list3 ++ zs))))
+last_on frame linear demosaic ys zs i j new at here =
+    let two = length (listed frame.list2) in
+    let three = length (listed frame.list3) in
+    past (listed frame.list1) _ _ i (two + three + 3 + j) new (omega (arith, at))
+    (past (first_two frame linear) _ _ (two + three + 3 + j) (two + three + 1 + j) new (omega arith)
+    (past (listed frame.list2) _ _ (two + three + 1 + j) (three + 1 + j) new (omega arith)
+    (past (demosaic ∷ []) _ _ (three + 1 + j) (three + j) new (omega arith)
+    (past (listed frame.list3) ys zs (three + j) j new (omega arith) here))))
+
+-- the stages behind list 3
+abbrev last_four : Frame → (balance matrix tone : DevStage) → List DevStage
+last_four frame balance matrix tone = Crop (record { rect = frame.crop }) ∷ balance ∷ matrix ∷ tone ∷ []
+
+balance_on : (frame : Frame) (linear demosaic balance matrix tone new : DevStage) → replaced (balance_number frame) new (in_order frame linear demosaic balance matrix tone) ≡ in_order frame linear demosaic new matrix tone
+unfolding in_order
+balance_on frame linear demosaic balance matrix tone new =
+    last_on frame linear demosaic (last_four frame balance matrix tone) (last_four frame new matrix tone) (balance_number frame - 1) 1 new (omega arith) refl
+
+matrix_on : (frame : Frame) (linear demosaic balance matrix tone new : DevStage) → replaced (balance_number frame + 1) new (in_order frame linear demosaic balance matrix tone) ≡ in_order frame linear demosaic balance new tone
+unfolding in_order
+matrix_on frame linear demosaic balance matrix tone new =
+    last_on frame linear demosaic (last_four frame balance matrix tone) (last_four frame balance new tone) (balance_number frame + 1 - 1) 2 new (omega arith) refl
+
+tone_on : (frame : Frame) (linear demosaic balance matrix tone new : DevStage) → replaced (balance_number frame + 2) new (in_order frame linear demosaic balance matrix tone) ≡ in_order frame linear demosaic balance matrix new
+unfolding in_order
+tone_on frame linear demosaic balance matrix tone new =
+    last_on frame linear demosaic (last_four frame balance matrix tone) (last_four frame balance matrix new) (balance_number frame + 2 - 1) 3 new (omega arith) refl
+
+-- how many stages there are
+how_many : (frame : Frame) (linear demosaic balance matrix tone : DevStage) → length (in_order frame linear demosaic balance matrix tone) ≡ length (listed frame.list1) + length (listed frame.list2) + length (listed frame.list3) + 7
+unfolding in_order
+how_many frame linear demosaic balance matrix tone =
+    let one = length-append (listed frame.list1) (first_two frame linear ++ (listed frame.list2 ++ ((demosaic ∷ []) ++ (listed frame.list3 ++ last_four frame balance matrix tone)))) in
+    let two = length-append (listed frame.list2) ((demosaic ∷ []) ++ (listed frame.list3 ++ last_four frame balance matrix tone)) in
+    let three = length-append (listed frame.list3) (last_four frame balance matrix tone) in
+    omega (arith, one, two, three)
+
+-- the linear values of settings under which there are stages
+linear_has : (frame : Frame) (settings : Settings) (stages : List DevStage) → Has frame settings stages → linear_or frame settings ≡ Ok (linear_stage frame settings)
+linear_has frame settings stages h = cond-true _ _ _ h.above
+
+abbrev AreReplaced : Frame → Change → Settings → List DevStage → DevStage → Type 0
+AreReplaced frame change before stages stage =
+    planned frame (changed change before) ≡ Ok (replaced (number_of frame change) stage stages)
+
+-- a change of the levels
+levels_replaced : (frame : Frame) (before after : Settings) (stages : List DevStage) (stage : DevStage) → Has frame before stages → linear_or frame after ≡ Ok stage
+    → demosaic_stage frame after ≡ demosaic_stage frame before → balance_stage frame after ≡ balance_stage frame before → tone_stage after ≡ tone_stage before → after.matrix ≡ before.matrix
+    → planned frame after ≡ Ok (replaced (linear_number frame) stage stages)
+unfolding stages_with
+levels_replaced frame before after stages stage h t same_demosaic same_balance same_tone same_matrix =
+    planned_ok frame after (Matrix h.matrix) stage (ap (λ choice. matrix_or (chosen_matrix frame.colour choice)) same_matrix ∙ ap matrix_or h.chosen) t
+    ∙ (λ i. Ok (in_order frame stage (same_demosaic i) (same_balance i) (Matrix h.matrix) (same_tone i)))
+    ∙ ap Ok (sym (linear_on frame (linear_stage frame before) (demosaic_stage frame before) (balance_stage frame before) (Matrix h.matrix) (tone_stage before) stage))
+    ∙ ap (λ xs. Ok (replaced (linear_number frame) stage xs)) h.are
+
+pub are_replaced : (frame : Frame) (change : Change) (before : Settings) (stages : List DevStage) (stage : DevStage) → Has frame before stages → touched frame (changed change before) change ≡ Ok stage → AreReplaced frame change before stages stage
+unfolding stages_with
+are_replaced frame (key.Black black) before stages stage h t = levels_replaced frame before (changed (key.Black black) before) stages stage h t refl refl refl refl
+are_replaced frame (key.White white) before stages stage h t = levels_replaced frame before (changed (key.White white) before) stages stage h t refl refl refl refl
+are_replaced frame (key.Demosaic kind) before stages stage h t =
+    let new = demosaic_stage frame (changed (key.Demosaic kind) before) in
+    planned_ok frame (changed (key.Demosaic kind) before) (Matrix h.matrix) (linear_stage frame before) (ap matrix_or h.chosen) (linear_has frame before stages h)
+    ∙ ap Ok (sym (demosaic_on frame (linear_stage frame before) (demosaic_stage frame before) (balance_stage frame before) (Matrix h.matrix) (tone_stage before) new))
+    ∙ (λ i. Ok (replaced (demosaic_number frame) (ok_is new stage t i) (h.are i)))
+are_replaced frame (key.Wb gains) before stages stage h t =
+    let new = balance_stage frame (changed (key.Wb gains) before) in
+    planned_ok frame (changed (key.Wb gains) before) (Matrix h.matrix) (linear_stage frame before) (ap matrix_or h.chosen) (linear_has frame before stages h)
+    ∙ ap Ok (sym (balance_on frame (linear_stage frame before) (demosaic_stage frame before) (balance_stage frame before) (Matrix h.matrix) (tone_stage before) new))
+    ∙ (λ i. Ok (replaced (balance_number frame) (ok_is new stage t i) (h.are i)))
+are_replaced frame (key.Exposure exposure) before stages stage h t =
+    let new = balance_stage frame (changed (key.Exposure exposure) before) in
+    planned_ok frame (changed (key.Exposure exposure) before) (Matrix h.matrix) (linear_stage frame before) (ap matrix_or h.chosen) (linear_has frame before stages h)
+    ∙ ap Ok (sym (balance_on frame (linear_stage frame before) (demosaic_stage frame before) (balance_stage frame before) (Matrix h.matrix) (tone_stage before) new))
+    ∙ (λ i. Ok (replaced (balance_number frame) (ok_is new stage t i) (h.are i)))
+are_replaced frame (key.Matrix choice) before stages stage h t =
+    planned_ok frame (changed (key.Matrix choice) before) stage (linear_stage frame before) t (linear_has frame before stages h)
+    ∙ ap Ok (sym (matrix_on frame (linear_stage frame before) (demosaic_stage frame before) (balance_stage frame before) (Matrix h.matrix) (tone_stage before) stage))
+    ∙ ap (λ xs. Ok (replaced (balance_number frame + 1) stage xs)) h.are
+are_replaced frame (key.Tone curve) before stages stage h t =
+    let new = tone_stage (changed (key.Tone curve) before) in
+    planned_ok frame (changed (key.Tone curve) before) (Matrix h.matrix) (linear_stage frame before) (ap matrix_or h.chosen) (linear_has frame before stages h)
+    ∙ ap Ok (sym (tone_on frame (linear_stage frame before) (demosaic_stage frame before) (balance_stage frame before) (Matrix h.matrix) (tone_stage before) new))
+    ∙ (λ i. Ok (replaced (balance_number frame + 2) (ok_is new stage t i) (h.are i)))
+
+-- the number of a change is that of a stage
+numbered : (frame : Frame) (change : Change) (before : Settings) (stages : List DevStage) → Has frame before stages → (1 ≤ number_of frame change) × (number_of frame change ≤ length stages)
+unfolding stages_with
+numbered frame change before stages h = by change
+  where
+    count : length stages ≡ length (listed frame.list1) + length (listed frame.list2) + length (listed frame.list3) + 7
+    count = ap length (sym h.are) ∙ how_many frame (linear_stage frame before) (demosaic_stage frame before) (balance_stage frame before) (Matrix h.matrix) (tone_stage before)
+
+    by : (change : Change) → (1 ≤ number_of frame change) × (number_of frame change ≤ length stages)
+    by (key.Black black) = (omega arith, omega (arith, count))
+    by (key.White white) = (omega arith, omega (arith, count))
+    by (key.Demosaic kind) = (omega arith, omega (arith, count))
+    by (key.Wb gains) = (omega arith, omega (arith, count))
+    by (key.Exposure exposure) = (omega arith, omega (arith, count))
+    by (key.Matrix choice) = (omega arith, omega (arith, count))
+    by (key.Tone curve) = (omega arith, omega (arith, count))
+
+pub replaces : (frame : Frame) (change : Change) (after : Settings) (number : ℕ) (stage : DevStage) → number ≡ number_of frame change → touched frame after change ≡ Ok stage → Replaces frame change after number stage
+replaces frame change after number stage is t before stages same planned_before =
+    let h = has frame before stages planned_before in
+    let new : AreReplaced frame change before stages stage = are_replaced frame change before stages stage h (subst (λ (settings : Settings). touched frame settings change ≡ Ok stage) same t) in
+    let places = numbered frame change before stages h in (
+      subst (λ (n : ℕ). 1 ≤ n) (sym is) places.0,
+      subst (λ (n : ℕ). n ≤ length stages) (sym is) places.1,
+      subst (λ (n : ℕ). planned frame after ≡ Ok (replaced n stage stages)) (sym is) (subst (λ (settings : Settings). planned frame settings ≡ Ok (replaced (number_of frame change) stage stages)) (sym same) new),
+    )
+
+-- there are no stages where the one that is touched is refused
+are_refused : (frame : Frame) (change : Change) (before : Settings) (stages : List DevStage) (refusal : PlanFault) → Has frame before stages → touched frame (changed change before) change ≡ Err refusal → planned frame (changed change before) ≡ Err refusal
+are_refused frame (key.Black black) before stages refusal h t = planned_low frame (changed (key.Black black) before) (Matrix h.matrix) refusal (ap matrix_or h.chosen) t
+are_refused frame (key.White white) before stages refusal h t = planned_low frame (changed (key.White white) before) (Matrix h.matrix) refusal (ap matrix_or h.chosen) t
+are_refused frame (key.Demosaic kind) before stages refusal h t = absurd (cc)
+are_refused frame (key.Wb gains) before stages refusal h t = absurd (cc)
+are_refused frame (key.Exposure exposure) before stages refusal h t = absurd (cc)
+are_refused frame (key.Matrix choice) before stages refusal h t = planned_none frame (changed (key.Matrix choice) before) refusal t
+are_refused frame (key.Tone curve) before stages refusal h t = absurd (cc)
+
+pub refuses : (frame : Frame) (change : Change) (after : Settings) (refusal : PlanFault) → touched frame after change ≡ Err refusal → Refuses frame change after refusal
+refuses frame change after refusal t before stages same planned_before =
+    subst (λ (settings : Settings). planned frame settings ≡ Err refusal) (sym same)
+    (are_refused frame change before stages refusal (has frame before stages planned_before) (subst (λ (settings : Settings). touched frame settings change ≡ Err refusal) same t))

@@ -1,0 +1,29 @@
+//! Why settings give a frame no stages.
+
+use std::alloc::AllocError;
+use thiserror::Error;
+
+/// Why settings give a frame no stages.
+#[derive(Clone, Copy, Debug, PartialEq, Eq, Error)]
+pub enum PlanFault {
+    /// They name a forward matrix that the frame hasn't.
+    #[error("the frame hasn't the forward matrix that is asked for")]
+    Matrix,
+    /// Under them the white level isn't above the greatest black level.
+    #[error("the white level isn't above the black level")]
+    Levels,
+    /// There was no memory.
+    #[error("out of memory")]
+    Memory,
+}
+
+impl From<AllocError> for PlanFault {
+    ghost use Rattle.std.specs.Prelude.{◌≡◌};
+    ghost use Rattle.dev_stages.specs.declared.fault.PlanFault.TheVariants.{Memory};
+
+    ghost from_gives = { λ _ fault. fault ≡ Memory };
+
+    fn from(_: AllocError) -> PlanFault {
+        PlanFault::Memory
+    }
+}
