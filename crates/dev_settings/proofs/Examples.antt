@@ -1,7 +1,7 @@
 -- The definitions at work on small scripts.
 use Rattle.std.proofs.Common.{◌≡◌, [], ◌∷◌, Some, None, Ok, Err, refl}
 use Rattle.std.specs.Prelude.{codes, pos, negsuc}
-use Rattle.dev_settings.specs.declared.command.Format.TheVariants.{Ppm}
+use Rattle.dev_settings.specs.declared.format.Format.TheVariants.{Ppm}
 use Rattle.dev_settings.specs.declared.command.Command.TheVariants.{Set, Region}
 use Rattle.dev_settings.specs.declared.command.LineFault.TheVariants as fault
 use Rattle.dev_settings.specs.declared.settings.Change.TheVariants.{White, Matrix, Tone}

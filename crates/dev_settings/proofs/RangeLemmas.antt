@@ -1,5 +1,5 @@
 -- A value that is read is in the range of its key.
-use Rattle.std.proofs.Common.{◌≡◌, ℕ, ◌<◌, ◌≤◌, ◌&&◌, Bool, true, false, cond, leb, ltb, eqb, ℤ, pos, negsuc, neg_ℤ, ◌≤ℤ◌, List, [], ◌∷◌, length, Option, Some, None, Result, Ok, Err, IsTrue, bytes_eq, codes, lit≤, refl, arith}
+use Rattle.std.proofs.Common.{◌≡◌, ℕ, ◌<◌, ◌≤◌, ◌&&◌, Bool, true, false, cond, leb, ltb, eqb, ℤ, pos, negsuc, List, [], ◌∷◌, length, Option, Some, None, Result, IsTrue, bytes_eq, codes, lit≤, refl, arith}
 use Rattle.std.specs.Bool.{⊤}
 use Rattle.std.specs.List.{All}
 use Rattle.std.specs.Option.{IfSome, option_map, option_and_then, ok_or}
@@ -10,15 +10,16 @@ use Rattle.std.proofs.lemmas.List.Elements.{All-cons}
 use Rattle.tone_table.specs.Knots.{are_knots, knots_of}
 use Rattle.tone_table.specs.declared.Curve.TheVariants.{Linear, Root, Knots}
 use Rattle.toml.specs.Data.{Data, Members, get_member}
-use Rattle.dev_settings.specs.Values.{Written, name, integer, integers, within, each, gain_of, gains_of, wb_of, level_of, exposure_of, entry_of, entries_of, matrix_of, matrix_named, tone_of, curve_named, points_of, demosaic_of, change_of}
-use Rattle.dev_settings.specs.Commands.{command_of, command_of_words, format_of, key_value_of, rectangle_of, region_of, region_with, set_of, set_of_key, stat_of}
+use Rattle.dev_settings.specs.Values.{Written, name, integer, integers, within, each, gain_of, gains_of, wb_of, level_of, exposure_of, entry_of, entries_of, matrix_of, tone_of, points_of, demosaic_of, change_of}
+use Rattle.dev_settings.specs.Commands.{command_of, command_of_words, key_value_of, rectangle_of, region_of, region_with, set_of, set_of_key, stat_of}
+use Rattle.dev_settings.specs.Formats.{format_of}
 use Rattle.dev_settings.specs.File.{data_value_of, passed_on, settings_from, with_value}
 use Rattle.dev_settings.specs.Keys.{key_of, keys, name_of}
 use Rattle.dev_settings.specs.Words.{words, number_of}
 use Rattle.dev_settings.specs.Settings.{changed, standard_settings}
 use Rattle.dev_settings.specs.declared.command.Command.{Command}
 use Rattle.dev_settings.specs.declared.command.Command.TheVariants.{Set, Region}
-use Rattle.dev_settings.specs.declared.command.Format.{Format}
+use Rattle.dev_settings.specs.declared.format.Format.{Format}
 use Rattle.dev_settings.specs.declared.command.LineFault.{LineFault}
 use Rattle.dev_settings.specs.declared.command.LineFault.TheVariants as fault
 use Rattle.dev_settings.specs.declared.key.Key.{Key}

@@ -1,13 +1,13 @@
 -- The command of a script line, which is this project's own.
 use Rattle.std.specs.Prelude.{ℕ, ℤ, Bool, true, false, List, [], ◌∷◌, Option, Some, None, Result, Ok, Err, ok_or, option_map, option_and_then, ◌&&◌, if◌then◌else◌, nat_lt, codes, bytes_eq}
-use Rattle.dev_settings.specs.declared.command.Format.{Format}
-use Rattle.dev_settings.specs.declared.command.Format.TheVariants.{Ppm}
+use Rattle.dev_settings.specs.declared.format.Format.{Format}
 use Rattle.dev_settings.specs.declared.command.Command.{Command}
 use Rattle.dev_settings.specs.declared.command.Command.TheVariants.{Set, Region, Stat}
 use Rattle.dev_settings.specs.declared.command.LineFault.{LineFault}
 use Rattle.dev_settings.specs.declared.command.LineFault.TheVariants as fault
 use Rattle.dev_settings.specs.declared.key.Key.{Key}
 use Rattle.dev_settings.specs.declared.key.Key.TheVariants.{Matrix, Tone}
+use Rattle.dev_settings.specs.Formats.{format_of}
 use Rattle.dev_settings.specs.Keys.{key_of}
 use Rattle.dev_settings.specs.Values.{Written, name, integer, integers, integers_of, change_of}
 use Rattle.dev_settings.specs.Words.{words, number_of, signed_of, unsigned_of}
@@ -49,10 +49,6 @@ set_of_key (Some key) ws = ok_or (option_map (λ change. Set change) (option_and
 abbrev pub set_of : List (List ℕ) → Result Command LineFault
 set_of [] = Err fault.Word
 set_of (word ∷ ws) = set_of_key (key_of word) ws
-
--- the format that a word names
-abbrev pub format_of : List ℕ → Option Format
-format_of word = if bytes_eq word (codes "ppm") then Some Ppm else None
 
 -- the region with these numbers, of which neither the width nor the height is 0
 abbrev pub region_with : Option ℕ → Option ℕ → Option ℕ → Option ℕ → Option Format → Option Command

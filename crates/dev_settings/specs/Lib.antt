@@ -1,6 +1,7 @@
 pub mod Answers
 pub mod Commands
 pub mod File
+pub mod Formats
 pub mod Keys
 pub mod LineLaws
 pub mod Lines

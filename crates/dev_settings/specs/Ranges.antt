@@ -2,14 +2,14 @@
 use Rattle.std.specs.Prelude.{◌≡◌, ⊤, ℕ, ℤ, pos, neg_ℤ, ◌≤◌, ◌≤ℤ◌, All, IfSome, IsTrue}
 use Rattle.tone_table.specs.Knots.{are_knots}
 use Rattle.tone_table.specs.declared.Curve.{Curve}
-use Rattle.tone_table.specs.declared.Curve.TheVariants.{Linear, Root, Knots}
+use Rattle.tone_table.specs.declared.Curve.TheVariants.{Knots}
 use Rattle.dev_settings.specs.declared.command.Command.{Command}
-use Rattle.dev_settings.specs.declared.command.Command.TheVariants.{Set, Region, Stat}
+use Rattle.dev_settings.specs.declared.command.Command.TheVariants.{Set}
 use Rattle.dev_settings.specs.declared.settings.Settings.{Settings}
 use Rattle.dev_settings.specs.declared.settings.MatrixChoice.{MatrixChoice}
-use Rattle.dev_settings.specs.declared.settings.MatrixChoice.TheVariants.{Auto, Camera, Forward1, Forward2, Own}
+use Rattle.dev_settings.specs.declared.settings.MatrixChoice.TheVariants.{Own}
 use Rattle.dev_settings.specs.declared.settings.Change.{Change}
-use Rattle.dev_settings.specs.declared.settings.Change.TheVariants.{Black, White, Demosaic, Wb, Exposure, Matrix, Tone}
+use Rattle.dev_settings.specs.declared.settings.Change.TheVariants.{White, Wb, Exposure, Matrix, Tone}
 
 -- a gain in 4096ths
 abbrev pub IsGain : ℕ → Type 0

@@ -1,30 +1,24 @@
 //! The commands of a script, one to a line.
 
 ghost use Rattle.std.specs.Prelude.{◌≡◌, option_map, IfOk};
-ghost use Rattle.dev_settings.specs.Commands.{command_of, curve_value_of, format_of, integer_of, key_value_of, rectangle_of, region_of, set_of, stat_of, value_of};
+ghost use Rattle.dev_settings.specs.Commands.{command_of, curve_value_of, integer_of, key_value_of, rectangle_of, region_of, set_of, stat_of, value_of};
 ghost use Rattle.dev_settings.specs.Ranges.{CommandInRange};
 ghost use Rattle.dev_settings.specs.Shown.{shown};
 ghost use Rattle.dev_settings.specs.Values.{integers_of};
 
+use crate::format::Format;
 use crate::integers::Integers;
 use crate::key::{Key, key_named};
 use crate::settings::Change;
 use crate::word::{Words, number, signed, unsigned};
 use crate::written::{Written, change};
 
-/// The format of an image.
-#[derive(Clone, Copy, Debug, PartialEq, Eq)]
-pub enum Format {
-    /// Binary portable pixmap (Netpbm's `P6`), with 16 bits a sample.
-    Ppm,
-}
-
 /// What a line asks for.
 #[derive(Clone, Copy, Debug, PartialEq, Eq)]
 pub enum Command {
     /// `set KEY VALUE`: the change of a setting.
     Set(Change),
-    /// `region X Y W H ppm`: the rectangle of `w` columns from `x` and `h` rows from `y`, as an
+    /// `region X Y W H FORMAT`: the rectangle of `w` columns from `x` and `h` rows from `y`, as an
     /// image. Neither `w` nor `h` is 0; whether the rectangle lies in the plane is for the caller.
     Region {
         x: u32,
@@ -187,18 +181,5 @@ fn stat(words: &Words<'_>) -> Result<Command, LineFault>
         Ok(Command::Stat)
     } else {
         Err(LineFault::Word)
-    }
-}
-
-impl Format {
-    /// The format that a word names.
-    fn named(word: &[u8]) -> Option<Self>
-        ensures { result ≡ format_of word.now }
-    {
-        if word == b"ppm".as_slice() {
-            Some(Format::Ppm)
-        } else {
-            None
-        }
     }
 }

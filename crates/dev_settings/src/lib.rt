@@ -3,6 +3,7 @@
 
 mod command;
 mod file;
+mod format;
 mod integers;
 mod key;
 mod line;
@@ -10,8 +11,9 @@ mod settings;
 mod word;
 mod written;
 
-pub use command::{Command, Format, LineFault};
+pub use command::{Command, LineFault};
 pub use file::SettingsFault;
+pub use format::Format;
 pub use line::{MAX_LINE_BYTES, line_text, split_line};
 pub use settings::{Change, MatrixChoice, Settings};
 

@@ -15,25 +15,23 @@ const SIXTEEN_KNOTS: &str =
 const SEVENTEEN_KNOTS: &str =
     "set tone knots 0 0 1 0 2 0 3 0 4 0 5 0 6 0 7 0 8 0 9 0 10 0 11 0 12 0 13 0 14 0 15 0 65535 0";
 
-fn region(x: u32, y: u32, w: u32, h: u32) -> Command {
-    Command::Region {
-        x,
-        y,
-        w,
-        h,
-        format: Format::Ppm,
-    }
+fn region(x: u32, y: u32, w: u32, h: u32, format: Format) -> Command {
+    Command::Region { x, y, w, h, format }
 }
 
 #[test]
 fn reads_regions(rt: HostRuntime) {
     for (line, want) in [
-        ("region 4 4 3 1 ppm", region(4, 4, 3, 1)),
-        ("  region   5 5  1 1 ppm ", region(5, 5, 1, 1)),
-        ("region 0000000005 5 1 1 ppm", region(5, 5, 1, 1)),
+        ("region 4 4 3 1 ppm", region(4, 4, 3, 1, Format::Ppm)),
+        ("region 0 0 1 1 tiff", region(0, 0, 1, 1, Format::Tiff)),
+        ("  region   5 6  1 2 ppm ", region(5, 6, 1, 2, Format::Ppm)),
         (
-            "region 4294967295 0 1 1 ppm",
-            region(4_294_967_295, 0, 1, 1),
+            "region 0000000005 5 1 1 tiff",
+            region(5, 5, 1, 1, Format::Tiff),
+        ),
+        (
+            "region 4294967295 0 1 4294967295 ppm",
+            region(4_294_967_295, 0, 1, 4_294_967_295, Format::Ppm),
         ),
         ("stat", Command::Stat),
         (" stat ", Command::Stat),
@@ -118,6 +116,7 @@ fn refuses_words_and_keys(rt: HostRuntime) {
         ("set", LineFault::Word),
         ("sets black 1", LineFault::Word),
         ("set hue", LineFault::Key),
+        ("set hue 1", LineFault::Key),
         ("set Black 1", LineFault::Key),
         ("set version 1", LineFault::Key),
         ("region 4294967296 0 1 1 ppm", LineFault::Region),
@@ -127,6 +126,9 @@ fn refuses_words_and_keys(rt: HostRuntime) {
         ("region 0 0 0 1 ppm", LineFault::Region),
         ("region 0 0 1 0 ppm", LineFault::Region),
         ("region 0 0 1 1 png", LineFault::Region),
+        ("region 0 0 1 1 TIFF", LineFault::Region),
+        ("region 0 0 1 1 tif", LineFault::Region),
+        ("region 0 0 1 1 tiffs", LineFault::Region),
         ("region 5 5 1 1 ppm\r", LineFault::Region),
     ] {
         assert_eq!(rt; Command::read(line.as_bytes()), Err(want), "{line:?}");
@@ -140,11 +142,15 @@ fn refuses_values(rt: HostRuntime) {
         "set black 65536",
         "set black 00000000001",
         "set black -0",
+        "set black 4294967296",
         "set black 1 2",
         "set black shot",
         "set white 0",
         "set white 65536",
+        "set white",
+        "set white 1 1",
         "set demosaic linear",
+        "set demosaic malvar malvar",
         "set demosaic",
         "set wb 0 1 1",
         "set wb 1 1048577 1",
@@ -152,6 +158,7 @@ fn refuses_values(rt: HostRuntime) {
         "set wb 1 1 1 1",
         "set wb 1",
         "set exposure 65537",
+        "set exposure -1",
         "set exposure x",
         "set exposure",
         "set matrix own",
@@ -184,6 +191,7 @@ fn refuses_curves(rt: HostRuntime) {
         "set tone knots 0 0 65535 -0",
         "set tone knots 0 0 0 5 65535 9",
         "set tone knots 1 0 65535 9",
+        "set tone knots 0 65536 65535 9",
         "set tone knots 0 0 65534 9",
         SEVENTEEN_KNOTS,
     ] {
@@ -257,14 +265,33 @@ tone = [0, 0, 65535, 0]
 version = 1
 ";
 
+/// The greatest value of each key.
+const GREATEST: &str = "\
+black = 65535
+white = 65535
+demosaic = 'malvar'
+wb = [1048576, 1048576, 1048576]
+exposure = 65536
+matrix = [0, 0, 0, 0, 16777216, 0, 0, 0, 1]
+tone = 'root'
+";
+
+/// Each key whose value may be a name, with the name that stands where nothing is set.
+const NAMES: &str = "\
+black = 'frame'
+white = 'frame'
+demosaic = 'malvar'
+wb = 'shot'
+matrix = 'auto'
+tone = 'linear'
+";
+
+fn reads_as(alloc: Global, file: &str, want: &Settings) -> bool {
+    Settings::from_toml(alloc, file.as_bytes()) == Ok(*want)
+}
+
 #[test]
-fn reads_files(rt: HostRuntime) -> Result<(), Fail> {
-    let alloc = rt.alloc();
-    let standard = Settings::standard();
-    assert!(rt; Settings::from_toml(alloc, b"") == Ok(standard));
-    let frames =
-        b"black = 'frame'\nwhite = 'frame'\nwb = 'shot'\nmatrix = 'auto'\ntone = 'linear'\n";
-    assert!(rt; Settings::from_toml(alloc, frames) == Ok(standard));
+fn reads_the_least(rt: HostRuntime) -> Result<(), Fail> {
     let least = Settings {
         version: 1,
         black: Some(0),
@@ -275,8 +302,45 @@ fn reads_files(rt: HostRuntime) -> Result<(), Fail> {
         matrix: MatrixChoice::Own([-16_777_216, 0, 0, 0, 0, 0, 0, 0, 0]),
         tone: Curve::Knots(Knots::new(&[(0, 0), (65535, 0)]).ok_or("knots")?),
     };
-    assert!(rt; Settings::from_toml(alloc, LEAST.as_bytes()) == Ok(least));
+    assert!(rt; reads_as(rt.alloc(), LEAST, &least));
     Ok(())
+}
+
+#[test]
+fn reads_the_greatest(rt: HostRuntime) {
+    let greatest = Settings {
+        version: 1,
+        black: Some(65535),
+        white: Some(65535),
+        demosaic: Kind::Malvar,
+        wb: Some([1_048_576, 1_048_576, 1_048_576]),
+        exposure: 65536,
+        matrix: MatrixChoice::Own([0, 0, 0, 0, 16_777_216, 0, 0, 0, 1]),
+        tone: Curve::Root,
+    };
+    assert!(rt; reads_as(rt.alloc(), GREATEST, &greatest));
+}
+
+#[test]
+fn reads_the_standard(rt: HostRuntime) {
+    for file in ["", "# nothing\r\n", "version = 1", NAMES] {
+        assert!(rt; reads_as(rt.alloc(), file, &Settings::standard()), "{file}");
+    }
+}
+
+#[test]
+fn reads_named_matrices(rt: HostRuntime) {
+    for (file, want) in [
+        ("matrix = 'camera'", MatrixChoice::Camera),
+        ("matrix = 'forward1'", MatrixChoice::Forward1),
+        ("matrix = 'forward2'", MatrixChoice::Forward2),
+    ] {
+        let want = Settings {
+            matrix: want,
+            ..Settings::standard()
+        };
+        assert!(rt; reads_as(rt.alloc(), file, &want), "{file}");
+    }
 }
 
 fn refusal(alloc: Global, file: &[u8]) -> Result<String, AllocError> {
@@ -294,17 +358,37 @@ fn refuses_files(rt: HostRuntime) -> Result<(), AllocError> {
         ("tint = 1", "an unknown key: tint"),
         ("zeta = 1\nalpha = 2\nversion = 2", "an unknown key: alpha"),
         ("black.x = 1\nhue.y = 2", "an unknown key: hue"),
+        ("version = 2", "a wrong value: version"),
+        ("version = '1'", "a wrong value: version"),
         ("tone = 'gamma'\nversion = 2", "a wrong value: version"),
         ("tone = 'gamma'", "a wrong value: tone"),
         ("tone = [0, 7, 65535]", "a wrong value: tone"),
+        ("tone = [0, 7]", "a wrong value: tone"),
+        ("tone = [0, 65536, 65535, 0]", "a wrong value: tone"),
+        ("tone = [[0, 7], [65535, 9]]", "a wrong value: tone"),
+        ("tone = 'knots 0 0 65535 9'", "a wrong value: tone"),
         ("tone = 'gamma'\nmatrix = 'own'", "a wrong value: matrix"),
         ("[black]", "a wrong value: black"),
         ("black = true", "a wrong value: black"),
         ("black = 65536", "a wrong value: black"),
+        ("black = -1", "a wrong value: black"),
         ("white = 0", "a wrong value: white"),
+        ("white = 65536", "a wrong value: white"),
         ("demosaic = 1", "a wrong value: demosaic"),
+        ("demosaic = 'linear'", "a wrong value: demosaic"),
         ("wb = [1, 1]", "a wrong value: wb"),
         ("wb = [1, 0, 1]", "a wrong value: wb"),
+        ("wb = [1, 1, 1048577]", "a wrong value: wb"),
+        ("wb = '1 1 1'", "a wrong value: wb"),
+        ("matrix = [1, 2, 3, 4, 5, 6, 7, 8]", "a wrong value: matrix"),
+        (
+            "matrix = [0, 0, 0, 0, 0, 0, 0, 0, 16777217]",
+            "a wrong value: matrix",
+        ),
+        (
+            "matrix = [-16777217, 0, 0, 0, 0, 0, 0, 0, 0]",
+            "a wrong value: matrix",
+        ),
         ("exposure = 65537", "a wrong value: exposure"),
         ("exposure = 1.0", "a wrong value: exposure"),
         ("exposure = -1", "a wrong value: exposure"),

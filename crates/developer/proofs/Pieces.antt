@@ -4,7 +4,7 @@ use Rattle.std.proofs.lemmas.List.{append-nil}
 use Rattle.plane_view.specs.Plane.{Plane, crop}
 use Rattle.plane_view.specs.declared.Rect.{Rect}
 use Rattle.raw_io.specs.declared.whole.WriteFault.{WriteFault}
-use Rattle.dev_settings.specs.declared.command.Format.{Format}
+use Rattle.dev_settings.specs.declared.format.Format.{Format}
 use Rattle.image_out.specs.Image.{pixels_of}
 use Rattle.developer.specs.Develop.{IsDeveloped, IsWithin}
 use Rattle.developer.specs.Writes.{Writes}
@@ -20,7 +20,7 @@ pub record InPieces {S : Type 0} (stands_for : S → List ℕ → Type 0) (fault
 
 module _ {S : Type 0} (stands_for : S → List ℕ → Type 0) (faults : S → ℕ) (first : S) (heads : List ℕ) (format : Format) (P : Plane) (rect : Rect) where
   -- no row yet
-  pub pieces_none : length heads ≤ 64 → InPieces stands_for faults first first heads heads 0 format P rect rect.top
+  pub pieces_none : length heads ≤ 256 → InPieces stands_for faults first first heads heads 0 format P rect rect.top
   pieces_none short =
       let none : rect.top - rect.top ≡ 0 = omega arith in
       record {
@@ -32,7 +32,7 @@ module _ {S : Type 0} (stands_for : S → List ℕ → Type 0) (faults : S → �
 
   module _ (now : S) (piece : List ℕ) (written row : ℕ) (so-far : InPieces stands_for faults first now heads piece written format P rect row) (developed : IsDeveloped P) (within : IsWithin rect P) where
     -- the bytes that were written are few
-    pub pieces_few : length heads ≤ 64 → written < 2 ^ 60
+    pub pieces_few : length heads ≤ 256 → written < 2 ^ 60
     pieces_few short =
         let front = rows_front format P rect (row - rect.top) in
         let all : length (rows_of format P rect (row - rect.top)) + length front.0 ≡ length (pixels_of format (crop P rect).samples) = sym (ap length front.1 ∙ length-append (rows_of format P rect (row - rect.top)) front.0) in

@@ -3,7 +3,7 @@ use Rattle.std.specs.Prelude.{ℕ, ◌+◌, ◌^◌, nat_le, ◌&&◌, if◌then
 use Rattle.plane_view.specs.Plane.{Plane, crop}
 use Rattle.plane_view.specs.declared.Rect.{Rect}
 use Rattle.dev_settings.specs.Commands.{command_of}
-use Rattle.dev_settings.specs.declared.command.Format.{Format}
+use Rattle.dev_settings.specs.declared.format.Format.{Format}
 use Rattle.dev_settings.specs.declared.command.Command.{Command}
 use Rattle.dev_settings.specs.declared.command.Command.TheVariants.{Region}
 use Rattle.dev_settings.specs.declared.command.LineFault.{LineFault}

@@ -2,14 +2,16 @@
 #![tactic(auto)]
 
 mod piece;
+mod tiff;
 
 ghost use Rattle.std.specs.Prelude.{◌≡◌, ◌*◌, ◌≤◌, ◌++◌, length, take, drop};
 ghost use Rattle.image_out.specs.Image.{ppm_head_of, reply_head_of, pixels_of};
 
-use byteorder::{BigEndian, ByteOrder};
+use byteorder::{BigEndian, ByteOrder, LittleEndian};
 use dev_settings::Format;
 pub use piece::Piece;
 use text_line::Line;
+pub use tiff::{TIFF_HEAD, tiff_head};
 
 /// The head of a binary portable pixmap of `w` columns and `h` rows.
 #[tactic(auto, using(text_line::specs::Digits::decimal_within_ten))]
@@ -76,6 +78,7 @@ pub fn pixel_bytes(samples: &[u16], format: Format, out: &mut [u8])
 {
     match format {
         Format::Ppm => BigEndian::write_u16_into(samples, out),
+        Format::Tiff => LittleEndian::write_u16_into(samples, out),
     }
 }
 

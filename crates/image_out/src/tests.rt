@@ -1,4 +1,6 @@
-use super::{Piece, pixel_bytes, pixmap_head, ppm_head, reply_head, reply_line};
+use super::{
+    Piece, TIFF_HEAD, pixel_bytes, pixmap_head, ppm_head, reply_head, reply_line, tiff_head,
+};
 use dev_settings::Format;
 use std::alloc::AllocError;
 
@@ -23,14 +25,91 @@ fn writes_heads(rt: HostRuntime) {
     }
 }
 
+/// The head of a tag image file of one pixel, in parts: the header and the count of entries, the entries, and what
+/// stands behind them.
+const ONE_PIXEL: [&[u8]; 16] = [
+    b"\x49\x49\x2a\x00\x08\x00\x00\x00\x0c\x00",
+    b"\x00\x01\x04\x00\x01\x00\x00\x00\x01\x00\x00\x00",
+    b"\x01\x01\x04\x00\x01\x00\x00\x00\x01\x00\x00\x00",
+    b"\x02\x01\x03\x00\x03\x00\x00\x00\x9e\x00\x00\x00",
+    b"\x03\x01\x03\x00\x01\x00\x00\x00\x01\x00\x00\x00",
+    b"\x06\x01\x03\x00\x01\x00\x00\x00\x02\x00\x00\x00",
+    b"\x11\x01\x04\x00\x01\x00\x00\x00\xb4\x00\x00\x00",
+    b"\x15\x01\x03\x00\x01\x00\x00\x00\x03\x00\x00\x00",
+    b"\x16\x01\x04\x00\x01\x00\x00\x00\x01\x00\x00\x00",
+    b"\x17\x01\x04\x00\x01\x00\x00\x00\x06\x00\x00\x00",
+    b"\x1a\x01\x05\x00\x01\x00\x00\x00\xa4\x00\x00\x00",
+    b"\x1b\x01\x05\x00\x01\x00\x00\x00\xac\x00\x00\x00",
+    b"\x28\x01\x03\x00\x01\x00\x00\x00\x02\x00\x00\x00",
+    b"\x00\x00\x00\x00\x10\x00\x10\x00\x10\x00",
+    b"\x48\x00\x00\x00\x01\x00\x00\x00",
+    b"\x48\x00\x00\x00\x01\x00\x00\x00",
+];
+
+/// Whether bytes are these parts, one after the other.
+fn is_in_parts(bytes: &[u8], parts: &[&[u8]]) -> bool {
+    let mut rest = bytes;
+    for part in parts {
+        if rest.len() < part.len() || &rest[..part.len()] != *part {
+            return false;
+        }
+        rest = &rest[part.len()..];
+    }
+    rest.is_empty()
+}
+
+#[test]
+fn writes_the_head_of_a_tag_image_file(rt: HostRuntime) {
+    let mut out = [7; TIFF_HEAD];
+    tiff_head(1, 1, &mut out);
+    assert!(rt; is_in_parts(&out, &ONE_PIXEL));
+}
+
+#[test]
+fn writes_the_size_of_a_tag_image_file(rt: HostRuntime) {
+    let mut out = [7; TIFF_HEAD];
+    tiff_head(8192, 4080, &mut out);
+    for (at, want) in [
+        (18, b"\x00\x20\x00\x00"),
+        (30, b"\xf0\x0f\x00\x00"),
+        (102, b"\xf0\x0f\x00\x00"),
+        // 200,540,160 bytes of pixels
+        (114, b"\x00\x00\xf4\x0b"),
+    ] {
+        assert_eq!(rt; &out[at..at + 4], want.as_slice(), "{at}");
+    }
+}
+
 #[test]
 fn writes_pixels(rt: HostRuntime) {
     let mut out = [7; 6];
-    pixel_bytes(&[0x0640, 0x0320, 0x04b0], Format::Ppm, &mut out);
-    assert_eq!(rt; out, [0x06, 0x40, 0x03, 0x20, 0x04, 0xb0]);
-    pixel_bytes(&[0, 65535, 0x1234], Format::Ppm, &mut out);
-    assert_eq!(rt; out, [0, 0, 0xff, 0xff, 0x12, 0x34]);
+    for (samples, format, want) in [
+        (
+            [0x0640, 0x0320, 0x04b0],
+            Format::Ppm,
+            [0x06, 0x40, 0x03, 0x20, 0x04, 0xb0],
+        ),
+        (
+            [0x0640, 0x0320, 0x04b0],
+            Format::Tiff,
+            [0x40, 0x06, 0x20, 0x03, 0xb0, 0x04],
+        ),
+        (
+            [0, 65535, 0x1234],
+            Format::Ppm,
+            [0, 0, 0xff, 0xff, 0x12, 0x34],
+        ),
+        (
+            [0, 65535, 0x1234],
+            Format::Tiff,
+            [0, 0, 0xff, 0xff, 0x34, 0x12],
+        ),
+    ] {
+        pixel_bytes(&samples, format, &mut out);
+        assert_eq!(rt; out, want);
+    }
     pixel_bytes(&[], Format::Ppm, &mut []);
+    pixel_bytes(&[], Format::Tiff, &mut []);
 }
 
 #[test]
