@@ -6,9 +6,9 @@ use Rattle.plane_view.specs.Plane.{Plane, IsWhole, crop}
 use Rattle.plane_view.specs.Rectangles.{LiesIn, rect_of}
 use Rattle.plane_view.specs.declared.Rect.{Rect}
 use Rattle.plane_view.proofs.Crops.{crop_all, crop_more, crop_none, length-crop}
-use Rattle.dev_settings.specs.declared.command.Format.{Format}
-use Rattle.dev_settings.specs.declared.command.Format.TheVariants.{Ppm}
-use Rattle.image_out.specs.Image.{pixels_of, ppm_head_of, reply_head_of}
+use Rattle.dev_settings.specs.declared.format.Format.{Format}
+use Rattle.dev_settings.specs.declared.format.Format.TheVariants.{Ppm, Tiff}
+use Rattle.image_out.specs.Image.{head_of, pixels_of, reply_head_of}
 use Rattle.image_out.specs.ImageLaws.{length-image_of, length-pixels_of, pixels_of-append}
 use Rattle.raw_io.specs.Outside.{IsFrontOf}
 use Rattle.developer.specs.Develop.{IsDeveloped, IsWithin}
@@ -22,6 +22,7 @@ rows_of format P rect k = pixels_of format (take (k * ((rect.right - rect.left) 
 pub rows_none : (format : Format) (P : Plane) (rect : Rect) → rows_of format P rect 0 ≡ []
 unfolding rows_of
 rows_none Ppm P rect = ap (pixels_of Ppm) (crop_none P rect)
+rows_none Tiff P rect = ap (pixels_of Tiff) (crop_none P rect)
 
 -- one row more
 pub rows_more : (format : Format) (P : Plane) (rect : Rect) (k row : ℕ) → IsWhole P → LiesIn rect (rect_of P) → rect.left ≤ rect.right → rect.top + k ≡ row → row < rect.bottom
@@ -79,28 +80,28 @@ few_bytes format P rect developed within =
       few_samples (rect.bottom - rect.top) (rect.right - rect.left) (let h : rect.bottom - rect.top ≤ 8192 = omega (arith, within.bottom, developed.rows) in h) (let w : rect.right - rect.left ≤ 8192 = omega (arith, within.right, developed.cols) in w),
     )
 
--- the length of a pixmap
-length-pixmap : (P : Plane) (rect : Rect) → IsDeveloped P
-    → length (image P rect Ppm) ≡ length (ppm_head_of (rect.right - rect.left) (rect.bottom - rect.top)) + (rect.bottom - rect.top) * (6 * (rect.right - rect.left))
-length-pixmap P rect developed =
+-- the length of an image
+length-image : (format : Format) (P : Plane) (rect : Rect) → IsDeveloped P
+    → length (image P rect format) ≡ length (head_of format (rect.right - rect.left) (rect.bottom - rect.top)) + (rect.bottom - rect.top) * (6 * (rect.right - rect.left))
+length-image format P rect developed =
     let w : ℕ = rect.right - rect.left in
     let h : ℕ = rect.bottom - rect.top in
     let twice : 2 * (h * w * 3) ≡ h * (6 * w) = omega arith in
-    length-image_of w h (crop P rect).samples ∙ ap (λ (k : ℕ). length (ppm_head_of w h) + k) (ap (λ (k : ℕ). 2 * k) (length-part P rect developed) ∙ twice)
+    length-image_of format w h (crop P rect).samples ∙ ap (λ (k : ℕ). length (head_of format w h) + k) (ap (λ (k : ℕ). 2 * k) (length-part P rect developed) ∙ twice)
 
 -- the reply to a region: the heads, and then the rows
 pub reply_pieces : (format : Format) (P : Plane) (rect : Rect) (heads : List ℕ) → IsDeveloped P
-    → heads ≡ reply_head_of (length (ppm_head_of (rect.right - rect.left) (rect.bottom - rect.top)) + (rect.bottom - rect.top) * (6 * (rect.right - rect.left))) ++ ppm_head_of (rect.right - rect.left) (rect.bottom - rect.top)
+    → heads ≡ reply_head_of (length (head_of format (rect.right - rect.left) (rect.bottom - rect.top)) + (rect.bottom - rect.top) * (6 * (rect.right - rect.left))) ++ head_of format (rect.right - rect.left) (rect.bottom - rect.top)
     → heads ++ pixels_of format (crop P rect).samples ≡ image_reply (image P rect format)
-reply_pieces Ppm P rect heads developed is =
-    let head : List ℕ = ppm_head_of (rect.right - rect.left) (rect.bottom - rect.top) in
-    let pixels : List ℕ = pixels_of Ppm (crop P rect).samples in
-    let n : ℕ = length (image P rect Ppm) in
-    ap (λ (front : List ℕ). front ++ pixels) (is ∙ ap (λ (k : ℕ). reply_head_of k ++ head) (sym (length-pixmap P rect developed)))
+reply_pieces format P rect heads developed is =
+    let head : List ℕ = head_of format (rect.right - rect.left) (rect.bottom - rect.top) in
+    let pixels : List ℕ = pixels_of format (crop P rect).samples in
+    let n : ℕ = length (image P rect format) in
+    ap (λ (front : List ℕ). front ++ pixels) (is ∙ ap (λ (k : ℕ). reply_head_of k ++ head) (sym (length-image format P rect developed)))
     ∙ append_assoc (reply_head_of n) head pixels
 
 -- the most bytes of a reply
-pub few_reply : (format : Format) (P : Plane) (rect : Rect) (heads : List ℕ) → IsDeveloped P → IsWithin rect P → length heads ≤ 64 → heads ++ pixels_of format (crop P rect).samples ≡ image_reply (image P rect format)
+pub few_reply : (format : Format) (P : Plane) (rect : Rect) (heads : List ℕ) → IsDeveloped P → IsWithin rect P → length heads ≤ 256 → heads ++ pixels_of format (crop P rect).samples ≡ image_reply (image P rect format)
     → length (image_reply (image P rect format)) ≤ max_answer
 few_reply format P rect heads developed within short is =
     subst (λ (bytes : List ℕ). length bytes ≤ max_answer) is

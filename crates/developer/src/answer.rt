@@ -3,7 +3,7 @@
 ghost use Rattle.std.specs.Prelude.{◌≡◌, ◌+◌, ◌-◌, ◌*◌, ◌≤◌, ◌++◌, [], length, OnOk};
 ghost use Rattle.std.specs.Option.{ForSome};
 ghost use Rattle.plane_view.specs.Plane.{crop};
-ghost use Rattle.image_out.specs.Image.{pixels_of, ppm_head_of, reply_head_of};
+ghost use Rattle.image_out.specs.Image.{head_of, pixels_of, reply_head_of};
 ghost use Rattle.developer.specs.Develop.{IsDeveloped, IsWithin};
 ghost use Rattle.developer.specs.Replies.{answer_of, command_reply, first_state, image, image_reply, max_answer, region_reply};
 ghost use Rattle.developer.specs.Writes.{Writes};
@@ -12,7 +12,7 @@ use crate::develop::Developed;
 use crate::opening::OpenedFrame;
 use crate::writing::{write_bytes, write_piece};
 use dev_settings::{Command, Format, LineFault, line_text};
-use image_out::{Piece, pixmap_head, reply_line};
+use image_out::{Piece, TIFF_HEAD, pixmap_head, reply_line, tiff_head};
 use plane_view::Rect;
 use raw_io::{Sink, WriteFault};
 
@@ -106,22 +106,37 @@ fn write_image<O: Sink>(
     ensures short { length (image_reply (image plane.now rect.now format)) ≤ max_answer }
 {
     piece.clear();
-    push_heads(rect.right - rect.left, rect.bottom - rect.top, piece);
+    push_heads(
+        rect.right - rect.left,
+        rect.bottom - rect.top,
+        format,
+        piece,
+    );
     write_rows(plane, rect, format, piece, out)
 }
 
 /// Puts the line before an image of `w` columns and `h` rows, and the image's head, into an empty piece.
-fn push_heads(w: u32, h: u32, piece: &mut Piece)
+fn push_heads(w: u32, h: u32, format: Format, piece: &mut Piece)
     requires empty { piece.old ≡ [] }
     requires cols { w ≤ 8192 }
     requires rows { h ≤ 8192 }
-    ensures heads { piece.new ≡ reply_head_of (length (ppm_head_of w h) + h * (6 * w)) ++ ppm_head_of w h }
-    ensures short { length piece.new ≤ 64 }
+    ensures heads { piece.new ≡ reply_head_of (length (head_of format w h) + h * (6 * w)) ++ head_of format w h }
+    ensures short { length piece.new ≤ 256 }
 {
-    let head = pixmap_head(w, h);
     let pixels = u64::from(h) * (6 * u64::from(w));
-    piece.push_line(&reply_line(head.as_bytes().len() as u64 + pixels));
-    piece.push_line(&head);
+    match format {
+        Format::Ppm => {
+            let head = pixmap_head(w, h);
+            piece.push_line(&reply_line(head.as_bytes().len() as u64 + pixels));
+            piece.push_line(&head);
+        }
+        Format::Tiff => {
+            let mut head = [0; TIFF_HEAD];
+            tiff_head(w, h, &mut head);
+            piece.push_line(&reply_line(head.len() as u64 + pixels));
+            piece.push(&head);
+        }
+    }
 }
 
 /// Writes what a piece holds and then the samples of a rectangle, row by row.
@@ -134,7 +149,7 @@ fn write_rows<O: Sink>(
 ) -> Result<u64, WriteFault>
     requires plane { IsDeveloped plane.now }
     requires within { IsWithin rect.now plane.now }
-    requires heads { length piece.old ≤ 64 }
+    requires heads { length piece.old ≤ 256 }
     ensures { Writes O.stands_for O.faults out.old out.new (piece.old ++ pixels_of format (crop plane.now rect.now).samples) (λ n. n) result }
 {
     let mut written = 0;

@@ -27,6 +27,25 @@ fn one_pixel() -> &'static [u8] {
     ONE_PIXEL
 }
 
+/// The reply to a region of one pixel of the flat frame as a tag image file.
+fn one_pixel_as_tiff() -> &'static [u8] {
+    b"image 186\n\x49\x49\x2A\x00\x08\x00\x00\x00\x0C\x00\
+      \x00\x01\x04\x00\x01\x00\x00\x00\x01\x00\x00\x00\x01\x01\x04\x00\x01\x00\x00\x00\x01\x00\x00\x00\
+      \x02\x01\x03\x00\x03\x00\x00\x00\x9E\x00\x00\x00\x03\x01\x03\x00\x01\x00\x00\x00\x01\x00\x00\x00\
+      \x06\x01\x03\x00\x01\x00\x00\x00\x02\x00\x00\x00\x11\x01\x04\x00\x01\x00\x00\x00\xB4\x00\x00\x00\
+      \x15\x01\x03\x00\x01\x00\x00\x00\x03\x00\x00\x00\x16\x01\x04\x00\x01\x00\x00\x00\x01\x00\x00\x00\
+      \x17\x01\x04\x00\x01\x00\x00\x00\x06\x00\x00\x00\x1A\x01\x05\x00\x01\x00\x00\x00\xA4\x00\x00\x00\
+      \x1B\x01\x05\x00\x01\x00\x00\x00\xAC\x00\x00\x00\x28\x01\x03\x00\x01\x00\x00\x00\x02\x00\x00\x00\
+      \x00\x00\x00\x00\x10\x00\x10\x00\x10\x00\
+      \x48\x00\x00\x00\x01\x00\x00\x00\x48\x00\x00\x00\x01\x00\x00\x00\
+      \x34\x12\x34\x12\x34\x12"
+}
+
+/// The samples of a row of the bright-red frame, as they end a tag image file.
+fn bright_samples() -> &'static [u8] {
+    b"\x40\x06\x20\x03\xB0\x04\x20\x03\x00\x00\x00\x00\x00\x00\x00\x00\x00\x00"
+}
+
 /// The replies to two regions of the bright-red frame.
 fn bright_pixels() -> &'static [u8] {
     b"image 31\nP6\n3 1\n65535\n\x06\x40\x03\x20\x04\xB0\x03\x20\x00\x00\x00\x00\x00\x00\x00\x00\x00\x00\
@@ -55,7 +74,7 @@ fn other_lines() -> [&'static [u8]; 16] {
         b"region 4294967296 0 1 1 ppm\n",
         b"region 0 0 0 1 ppm\n",
         b"region 0 0 1 0 ppm\n",
-        b"region 0 0 1 1 tiff\n",
+        b"region 0 0 1 1 TIFF\n",
         b"region 0 0 1 1\n",
         b"region 0 0 1 1 ppm ppm\n",
         b"region\t0 0 1 1 ppm\n",
@@ -166,6 +185,17 @@ fn regions(rt: HostRuntime) -> Result<(), Fail> {
     let (status, bytes) = ran(alloc, &bright, b"region 4 4 3 1 ppm\nregion 5 5 1 1 ppm\n")?;
     assert_eq!(rt; status, Status::Done);
     assert_eq!(rt; bytes.as_slice(), bright_pixels());
+    Ok(())
+}
+
+#[test]
+fn tag_image_files(rt: HostRuntime) -> Result<(), Fail> {
+    let alloc = rt.alloc();
+    let (status, written) = ran(alloc, &flat_file(alloc)?, b"region 0 0 1 1 tiff\n")?;
+    assert!(rt; status == Status::Done && written.as_slice() == one_pixel_as_tiff());
+    let bright = bright_red(alloc)?.bytes(alloc, Order::Little)?;
+    let (_, written) = ran(alloc, &bright, b"region 4 4 3 1 tiff\n")?;
+    assert!(rt; written.starts_with(b"image 198\n") && written.ends_with(bright_samples()));
     Ok(())
 }
 
