@@ -16,6 +16,7 @@ pub use file::SettingsFault;
 pub use format::Format;
 pub use line::{MAX_LINE_BYTES, line_text, split_line};
 pub use settings::{Change, MatrixChoice, Settings};
+pub use word::number;
 
 #[cfg(test)]
 mod tests;

@@ -89,7 +89,7 @@ fn first_space(line: &[u8]) -> Option<usize>
 }
 
 /// The number that a word writes, where it is 1 to 10 decimal digits and the number fits 32 bits.
-pub(crate) fn number(word: &[u8]) -> Option<u32>
+pub fn number(word: &[u8]) -> Option<u32>
     ensures { result ≡ number_of word.now }
 {
     if !is_numeral(word) {

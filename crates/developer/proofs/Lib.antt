@@ -5,4 +5,5 @@ mod Openings
 mod Outsides
 mod Pieces
 mod Development
+mod NamedWords
 mod Written

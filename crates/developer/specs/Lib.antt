@@ -1,4 +1,6 @@
+pub mod CommandLine
 pub mod Words
+pub mod Shown
 pub mod Develop
 pub mod Refusals
 pub mod Opening

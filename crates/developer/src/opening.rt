@@ -149,10 +149,12 @@ pub(crate) fn open<F: Files, O: Sink>(
           taken = [];
         }) (status_of ending)) }
 {
-    let Some(name) = read_words(words) else {
-        return Err(refuse(USAGE_LINE, Ending::Usage, out));
+    let options = match read_words(alloc, words) {
+        Ok(Some(options)) => options,
+        Ok(None) => return Err(refuse(USAGE_LINE, Ending::Usage, out)),
+        Err(_) => return Err(Ending::Memory),
     };
-    match OpenedFrame::read(alloc, files, name.as_str()) {
+    match OpenedFrame::read(alloc, files, options.frame) {
         Ok(frame) => Ok(frame),
         Err(OpenFault::Refused(fault)) => Err(refuse_frame(fault, out)),
         Err(OpenFault::Unread) => Err(Ending::ReadFault),

@@ -83,12 +83,46 @@ fn other_lines() -> [&'static [u8]; 16] {
     ]
 }
 
-fn refused_words() -> [&'static [&'static str]; 4] {
+fn refused_words() -> [&'static [&'static str]; 24] {
     [
         &[],
-        &["f.dng", "--cell", "20"],
-        &["f.dng", "--budget", "1073741825"],
         &["-x"],
+        &["f.dng", "g.dng"],
+        &["f.dng", "-x"],
+        &["f.dng", "--tint"],
+        &["f.dng", "--help"],
+        &["-h"],
+        &["f.dng", "--version"],
+        &["f.dng", "--settings"],
+        &["f.dng", "--cell"],
+        &["f.dng", "--cell", "20"],
+        &["f.dng", "--cell", "0"],
+        &["f.dng", "--cell", "528"],
+        &["f.dng", "--cell", "00000000016"],
+        &["f.dng", "--cell", "+16"],
+        &["f.dng", "--cell="],
+        &["f.dng", "--cell", "16", "--cell", "16"],
+        &["f.dng", "--cel", "16"],
+        &["f.dng", "--budget", "1073741825"],
+        &["f.dng", "--budget", "4294967296"],
+        &["f.dng", "--budget", "-5"],
+        &["f.dng", "--budget=-5"],
+        &["f.dng", "--budget", "1e3"],
+        &["--", "f.dng", "--cell", "16"],
+    ]
+}
+
+fn accepted_words() -> [&'static [&'static str]; 9] {
+    [
+        &["f.dng"],
+        &["--", "f.dng"],
+        &["f.dng", "--cell", "16"],
+        &["--cell=512", "f.dng"],
+        &["f.dng", "--cell", "0000000128"],
+        &["f.dng", "--budget", "0"],
+        &["f.dng", "--budget=1073741824"],
+        &["--budget", "5", "f.dng", "--cell", "32"],
+        &["--cell", "496", "--budget", "1073741824", "f.dng"],
     ]
 }
 
