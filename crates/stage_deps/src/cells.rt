@@ -58,11 +58,7 @@ pub fn meeting_cells(
 /// # Errors
 ///
 /// Where `rects` has no memory for them.
-pub fn rects_of(
-    cells: &[Rect],
-    numbers: &[u32],
-    rects: &mut Vec<Rect>,
-) -> Result<(), AllocError>
+pub fn rects_of(cells: &[Rect], numbers: &[u32], rects: &mut Vec<Rect>) -> Result<(), AllocError>
     requires { All (λ k. k < length cells.now) numbers.now }
     ensures { OnOk result (rects.new.items ≡ cells_at cells.now numbers.now) }
 {

@@ -1,4 +1,4 @@
-use Rattle.std.proofs.Common.{◌≡◌, ℕ, ◌+◌, ◌≤◌, ◌++◌, drop, List, length, sym, ◌∙◌, ap, arith}
+use Rattle.std.proofs.Common.{ℕ, ◌+◌, ◌++◌, drop, List, sym, ◌∙◌, ap, arith}
 use Rattle.plane_view.specs.declared.Rect.{Rect}
 use Rattle.stage_deps.specs.Cells.{meeting_from}
 use Rattle.stage_deps.specs.Grids.{grid_cells}

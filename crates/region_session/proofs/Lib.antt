@@ -1,0 +1,7 @@
+pub mod Counting
+pub mod Covering
+pub mod Layering
+pub mod Needs
+pub mod Sizes
+pub mod Top
+pub mod Writing

@@ -1,0 +1,4 @@
+pub mod Stacks
+pub mod Layers
+pub mod Parts
+pub mod Sessions

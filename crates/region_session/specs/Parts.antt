@@ -1,0 +1,21 @@
+-- Parts of planes that are filled cell by cell. This is this project's own.
+use Rattle.std.specs.Prelude.{◌≡◌, ℕ, ◌<◌, ◌*◌, List, take}
+use Rattle.plane_view.specs.declared.Rect.{Rect}
+use Rattle.plane_view.specs.Plane.{Plane, sample}
+use Rattle.plane_view.specs.Rectangles.{HasPixel, LiesIn, area_of}
+use Rattle.plane_view.specs.Lent.{AgreesWith, Lent, sample_at}
+use Rattle.stage_deps.specs.Cells.{cell_at}
+
+-- a rectangle, a number of planes, and as many of the samples as they take
+abbrev pub part_in : Rect → ℕ → List ℕ → Lent
+part_in rect planes samples = record { rect = rect; planes = planes; samples = take (area_of rect * planes) samples }
+
+-- a part has a plane's samples in the first n of these rectangles
+pub record IsFilled (P : Plane) (L : Lent) (rects : List Rect) (n : ℕ) : Type 0 where
+  pub planes : P.planes ≡ L.planes
+  pub samples : (i r c p : ℕ) → i < n → HasPixel (cell_at rects i) r c → HasPixel L.rect r c → p < P.planes → sample P r c p ≡ sample_at L r c p
+
+-- a part has a rectangle, and the plane's samples there
+pub record Shows (P : Plane) (L : Lent) (rect : Rect) : Type 0 where
+  pub lies : LiesIn rect L.rect
+  pub agrees : AgreesWith P L rect

@@ -1,0 +1,14 @@
+//! Development by cells: any rectangle of the last plane of stages over a base, from the cells that it rests on.
+#![tactic(auto)]
+
+mod faults;
+mod filling;
+mod layers;
+mod making;
+mod patch;
+mod session;
+mod tally;
+
+pub use faults::{OpenFault, ShapeChanged};
+pub use session::Session;
+pub use tally::Tally;

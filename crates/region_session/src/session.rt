@@ -1,0 +1,269 @@
+//! Sessions: stages over a base, of which rectangles are made and single stages replaced.
+
+ghost use Rattle.std.specs.Prelude.{◌≡◌, ℕ, ◌+◌, ◌-◌, ◌*◌, ◌%◌, ◌<◌, ◌≤◌, ◌^◌, [], ◌∷◌, length, slice_get, slice_set, Some, IfOk, IfErr, OnOk, OnErr};
+ghost use Rattle.plane_view.specs.Plane.{crop};
+ghost use Rattle.plane_view.specs.Rectangles.{area_of};
+ghost use Rattle.plane_view.specs.Tiles.{CopiesFrom};
+ghost use Rattle.plane_view.specs.Shapes.{IsShape};
+ghost use Rattle.stage_core.specs.Bases.{raised};
+ghost use Rattle.stage_core.specs.Planes.{IsPart, IsPlane};
+ghost use Rattle.stage_core.specs.Stages.{shape_of};
+ghost use Rattle.stage_chain.specs.Chains.{TakeInTurn, whole_of};
+ghost use Rattle.region_session.specs.Sessions.{fetched_of, kept_of, ran_of};
+ghost use Rattle.region_session.specs.Stacks.{IsFirstRefusal, IsShapeOver, count_of_fetches, count_of_runs, last_shape, plane_shape};
+
+use crate::filling::Source;
+use crate::layers::{Layer, Needed, layers_of};
+use crate::making::make;
+use crate::patch::Patch;
+use crate::{OpenFault, ShapeChanged, Tally};
+use plane_view::{Rect, Shape, TileMut, View};
+use stage_core::{Base, Stage, Steps};
+use std::alloc::{AllocError, Global};
+use std::marker::Model;
+use std::sync::ledger::Ledger;
+
+/// Stages one after the other over a base. Contracts see the base's plane, cells and count of fetches, the stages, and
+/// how many cells were fetched and run.
+///
+/// Plane 0 is the base's, with the base's cells; plane k is what stage k, counted from 1, makes of the plane below, with
+/// the square cells of its grid. Nothing is kept from one band to the next.
+#[derive(Drop)]
+pub struct Session<B: Base, S: Stage> {
+    source: Source<B>,
+    stages: Vec<S>,
+    layers: Vec<Layer>,
+    needed: Vec<Needed>,
+    patch: Patch,
+    spare: Patch,
+    side: u32,
+    budget: u64,
+    ran: u64,
+}
+
+impl<B: Base, S: Stage> Model for Session<B, S> {
+    ghost use Rattle.std.specs.Prelude.{length};
+    ghost use Rattle.stage_core.specs.Stages.{shape_of};
+    ghost use Rattle.region_session.specs.Sessions.{AreSound, Opened};
+
+    ghost Value = { Opened S };
+
+    ghost view = { λ s. record {
+      plane = B.plane s.source.base;
+      cells = B.cells_of s.source.base;
+      fetches = B.fetches s.source.base;
+      stages = s.stages.items;
+      side = s.side;
+      budget = s.budget;
+      fetched = s.source.fetched;
+      ran = s.ran;
+    } };
+
+    ghost invariant = { λ s. AreSound S.takes S.shaped (shape_of (B.plane s.source.base)) (B.cells_of s.source.base) s.source.cells.items
+        s.stages.items s.layers.items (length s.needed.items) s.side s.budget };
+}
+
+impl<B: Base, S: Stage> Session<B, S> {
+    /// Opens 1 to 64 stages over a base, with cells of a side of 16 to 512, a multiple of 16. The budget is 0: nothing is
+    /// kept.
+    ///
+    /// # Errors
+    ///
+    /// `Shape` exactly where a stage refuses the shape of the plane below it, for the first such one; `Memory` where
+    /// there is no memory. The base and the stages are dropped.
+    pub fn open(
+        alloc: Global,
+        base: B,
+        stages: Vec<S>,
+        cell: u32,
+        budget: u64,
+    ) -> Result<Session<B, S>, OpenFault>
+        requires some { 1 ≤ length stages.items }
+        requires few { length stages.items ≤ 64 }
+        requires least { 16 ≤ cell }
+        requires most { cell ≤ 512 }
+        requires multiple { cell % 16 ≡ 0 }
+        requires budget { budget ≡ 0 }
+        ensures opened { IfOk result (λ session. session ≡ record {
+          plane = B.plane base;
+          cells = B.cells_of base;
+          fetches = B.fetches base;
+          stages = stages.items;
+          side = cell;
+          budget = budget;
+          fetched = 0;
+          ran = 0;
+        }) }
+        ensures takes { OnOk result (TakeInTurn S.takes S.shaped stages.items (shape_of (B.plane base))) }
+        ensures refused { IfErr result (λ fault. (k : ℕ) → fault ≡ OpenFault.Shape k
+            → IsFirstRefusal S.takes S.shaped stages.items (shape_of (B.plane base)) k) }
+    {
+        let layers = layers_of(alloc, base.shape(), &stages)?;
+        let cells = cells_of(alloc, &base)?;
+        let mut needed = Vec::new(alloc);
+        needed.resize_with(stages.len() + 1, || Needed::new(alloc))?;
+        Ok(Session {
+            source: Source {
+                base,
+                cells,
+                fetched: 0,
+            },
+            stages,
+            layers,
+            needed,
+            patch: Patch::new(alloc),
+            spare: Patch::new(alloc),
+            side: cell,
+            budget,
+            ran: 0,
+        })
+    }
+
+    /// The shape of the last plane.
+    pub fn shape(&self) -> Shape
+        ensures shape { result ≡ last_shape S.shaped (shape_of self.now.plane) self.now.stages }
+        ensures limits { IsShape result }
+    {
+        self.layers[self.layers.len() - 1].shape
+    }
+
+    /// Stage `k`, counted from 1.
+    pub fn stage(&self, k: u32) -> &S
+        requires least { 1 ≤ k }
+        requires most { k ≤ length self.now.stages }
+        ensures { slice_get self.now.stages (k - 1) ≡ Some result.now }
+    {
+        &self.stages[k as usize - 1]
+    }
+
+    /// Puts a stage in the place of stage `k`, counted from 1.
+    ///
+    /// # Errors
+    ///
+    /// Exactly where it makes another shape of the plane below than the present one, or refuses it. Then nothing changes,
+    /// and the new stage is dropped.
+    pub fn replace(&mut self, k: u32, stage: S) -> Result<(), ShapeChanged>
+        requires least { 1 ≤ k }
+        requires most { k ≤ length self.old.stages }
+        ensures replaced { OnOk result (self.new ≡ record self.old { stages = slice_set self.old.stages (k - 1) stage }) }
+        ensures same { OnOk result (IsShapeOver S.takes S.shaped stage (plane_shape S.shaped (shape_of self.old.plane) self.old.stages (k - 1))
+            (Some (plane_shape S.shaped (shape_of self.old.plane) self.old.stages k))) }
+        ensures had { IfErr result (λ fault. fault.had ≡ plane_shape S.shaped (shape_of self.old.plane) self.old.stages k) }
+        ensures got { IfErr result (λ fault. IsShapeOver S.takes S.shaped stage (plane_shape S.shaped (shape_of self.old.plane) self.old.stages (k - 1)) fault.got) }
+        ensures changed { IfErr result (λ fault. fault.got ≡ Some fault.had → ⊥) }
+        ensures unchanged { OnErr result (self.new ≡ self.old) }
+    {
+        let Layer { input, shape } = self.layers[k as usize - 1];
+        let got = stage.shape(input);
+        if got != Some(shape) {
+            return Err(ShapeChanged { had: shape, got });
+        }
+        self.stages[k as usize - 1] = stage;
+        Ok(())
+    }
+
+    /// Writes a rectangle of the last plane, which has pixels: row by row, the planes of a pixel side by side. Each cell
+    /// that it rests on is fetched or run once, and no other.
+    ///
+    /// # Errors
+    ///
+    /// Where there is no memory. Then `out` holds anything.
+    pub fn band<L: Ledger>(
+        &mut self,
+        rect: Rect,
+        out: &mut [u16],
+        work: &mut Steps<L>,
+    ) -> Result<(), AllocError>
+        requires rect { IsPart rect (last_shape S.shaped (shape_of self.old.plane) self.old.stages) }
+        requires long { length out.old ≡ area_of rect * (last_shape S.shaped (shape_of self.old.plane) self.old.stages).planes }
+        ensures crop { OnOk result (out.new ≡ (crop (whole_of S.apply self.old.stages self.old.plane) rect).samples) }
+        ensures work { OnOk result (work.new ≡ work.old
+            + (count_of_fetches S.shaped S.needed self.old.side (shape_of self.old.plane) self.old.cells self.old.stages (rect ∷ [])
+            + count_of_runs S.shaped S.needed self.old.side (shape_of self.old.plane) self.old.stages (rect ∷ []))) }
+        ensures session { OnOk result (self.new ≡ record self.old {
+          fetches = raised self.old.fetches (count_of_fetches S.shaped S.needed self.old.side (shape_of self.old.plane) self.old.cells self.old.stages (rect ∷ []));
+          fetched = raised self.old.fetched (count_of_fetches S.shaped S.needed self.old.side (shape_of self.old.plane) self.old.cells self.old.stages (rect ∷ []));
+          ran = raised self.old.ran (count_of_runs S.shaped S.needed self.old.side (shape_of self.old.plane) self.old.stages (rect ∷ []));
+        }) }
+        ensures kept_as_was { self.new ≡ record self.old { fetches = self.new.fetches; fetched = self.new.fetched; ran = self.new.ran } }
+    {
+        make(
+            &mut self.source,
+            self.side,
+            &self.stages,
+            &self.layers,
+            &mut self.needed,
+            &[rect],
+            &mut self.patch,
+            &mut self.spare,
+            &mut self.ran,
+            work,
+        )?;
+        copy_into(rect, self.patch.planes(), out, &self.patch.view());
+        Ok(())
+    }
+
+    /// How many cells were fetched since opening, held at 2^64 - 1.
+    pub fn fetched(&self) -> u64
+        ensures { result ≡ self.now.fetched }
+    {
+        self.source.fetched
+    }
+
+    /// How many cells were run since opening, held at 2^64 - 1.
+    pub fn ran(&self) -> u64
+        ensures { result ≡ self.now.ran }
+    {
+        self.ran
+    }
+
+    /// How many samples are kept.
+    pub fn kept(&self) -> u64
+        ensures { result ≡ 0 }
+    {
+        0
+    }
+
+    /// The budget of samples that it was opened with.
+    pub fn budget(&self) -> u64
+        ensures { result ≡ self.now.budget }
+    {
+        self.budget
+    }
+
+    /// The side of the cells that it was opened with.
+    pub fn cell(&self) -> u32
+        ensures { result ≡ self.now.side }
+    {
+        self.side
+    }
+
+    /// Ends the session: the numbers of the tally rise by its own.
+    pub fn close(self, into: &mut Tally)
+        ensures fetched { fetched_of into.new ≡ raised (fetched_of into.old) self.fetched }
+        ensures ran { ran_of into.new ≡ raised (ran_of into.old) self.ran }
+        ensures kept { kept_of into.new ≡ raised (kept_of into.old) 0 }
+    {
+        into.raise(self.fetched(), self.ran(), self.kept());
+    }
+}
+
+/// The rectangles of a base's cells.
+fn cells_of<B: Base>(alloc: Global, base: &B) -> Result<Vec<Rect>, AllocError>
+    ensures { IfOk result (λ cells. cells.items ≡ B.cells_of base.now) }
+{
+    let mut cells = Vec::new(alloc);
+    for k in 0..base.cells() {
+        cells.push(base.cell(k))?;
+    }
+    Ok(cells)
+}
+
+/// Writes the samples of the pixels that are in both.
+fn copy_into(rect: Rect, planes: u32, samples: &mut [u16], from: &View<'_>)
+    requires long { length samples.old ≡ area_of rect * planes }
+    requires planes { from.now.planes ≡ planes }
+    ensures { CopiesFrom (record { rect = rect; planes = planes; samples = samples.old }) (record { rect = rect; planes = planes; samples = samples.new }) from.now rect }
+{
+    TileMut::new(rect, planes, samples).copy_from(from);
+}
