@@ -1,13 +1,14 @@
 -- What a change of settings does to the stages of a frame.
-use Rattle.std.proofs.Common.{◌≡◌, ℕ, ◌+◌, ◌-◌, ◌≤◌, Bool, true, false, if◌then◌else◌, ℤ, pos, int_lt, List, [], ◌∷◌, ◌++◌, length, length-append, slice_set, Option, None, Some, Result, Ok, Err, refl, sym, ◌∙◌, ap, subst, arith}
+use Rattle.std.proofs.Common.{◌≡◌, ℕ, ◌+◌, ◌-◌, ◌≤◌, Bool, true, false, if◌then◌else◌, ℤ, pos, int_lt, List, [], ◌∷◌, ◌++◌, length, length-append, get_or, slice_get, slice_set, Option, None, Some, Result, Ok, Err, refl, sym, ◌∙◌, ap, subst, arith}
 use Rattle.std.proofs.lemmas.Bool.{cond-true}
-use Rattle.std.proofs.lemmas.List.{set-append_right}
+use Rattle.std.proofs.lemmas.List.{get_or-append_right, set-append_right}
+use Rattle.std.proofs.lemmas.Option.{get_or_from_slice_get}
 use Rattle.dng_tags.specs.declared.record.Frame.{Frame}
 use Rattle.dev_settings.specs.Settings.{changed}
 use Rattle.dev_settings.specs.declared.settings.Change.{Change}
 use Rattle.dev_settings.specs.declared.settings.Change.TheVariants as key
 use Rattle.dev_settings.specs.declared.settings.Settings.{Settings}
-use Rattle.dev_stages.specs.Changes.{Refuses, Replaces, balance_number, demosaic_number, linear_number, linear_or, matrix_or, number_of, replaced, touched}
+use Rattle.dev_stages.specs.Changes.{AreLike, Becomes, Refuses, Replaces, balance_number, demosaic_number, linear_number, linear_or, matrix_or, number_of, replaced, touched}
 use Rattle.dev_stages.specs.Listed.{listed}
 use Rattle.dev_stages.specs.Plans.{balance_stage, chosen_matrix, demosaic_stage, in_order, linear_stage, planned, planned_with, span_under, stages_with, tone_stage}
 use Rattle.dev_stages.specs.declared.fault.PlanFault.{PlanFault}
@@ -207,15 +208,124 @@ numbered frame change before stages h = by change
     by (key.Matrix choice) = (omega arith, omega (arith, count))
     by (key.Tone curve) = (omega arith, omega (arith, count))
 
+-- an item behind others is found
+found_past : (xs ys : List DevStage) (i j : ℕ) (other found : DevStage) → i ≡ length xs + j → get_or ys j other ≡ found → get_or (xs ++ ys) i other ≡ found
+found_past xs ys i j other found at here =
+    get_or-append_right xs ys (length xs) i other refl (omega (arith, at))
+    ∙ ap (λ (k : ℕ). get_or ys k other) (omega (arith, at))
+    ∙ here
+
+linear_at : (frame : Frame) (linear demosaic balance matrix tone other : DevStage) → get_or (in_order frame linear demosaic balance matrix tone) (linear_number frame - 1) other ≡ linear
+unfolding in_order
+linear_at frame linear demosaic balance matrix tone other =
+    found_past (listed frame.list1) _ (linear_number frame - 1) 1 other linear (omega arith) refl
+
+demosaic_at : (frame : Frame) (linear demosaic balance matrix tone other : DevStage) → get_or (in_order frame linear demosaic balance matrix tone) (demosaic_number frame - 1) other ≡ demosaic
+unfolding in_order
+demosaic_at frame linear demosaic balance matrix tone other =
+    found_past (listed frame.list1) _ (demosaic_number frame - 1) (length (listed frame.list2) + 2) other demosaic (omega arith)
+    (found_past (first_two frame linear) _ (length (listed frame.list2) + 2) (length (listed frame.list2)) other demosaic (omega arith)
+    (found_past (listed frame.list2) _ (length (listed frame.list2)) 0 other demosaic (omega arith) refl))
+
+last_at : (frame : Frame) (linear demosaic balance matrix tone other found : DevStage) (i j : ℕ) → i ≡ length (listed frame.list1) + length (listed frame.list2) + length (listed frame.list3) + 3 + j
+    → get_or (last_four frame balance matrix tone) j other ≡ found → get_or (in_order frame linear demosaic balance matrix tone) i other ≡ found
+unfolding in_order
+last_at frame linear demosaic balance matrix tone other found i j at here =
+    let two = length (listed frame.list2) in
+    let three = length (listed frame.list3) in
+    found_past (listed frame.list1) _ i (two + three + 3 + j) other found (omega (arith, at))
+    (found_past (first_two frame linear) _ (two + three + 3 + j) (two + three + 1 + j) other found (omega arith)
+    (found_past (listed frame.list2) _ (two + three + 1 + j) (three + 1 + j) other found (omega arith)
+    (found_past (demosaic ∷ []) _ (three + 1 + j) (three + j) other found (omega arith)
+    (found_past (listed frame.list3) (last_four frame balance matrix tone) (three + j) j other found (omega arith) here))))
+
+-- stages of the same kind
+like_linear : (frame : Frame) (before after : Settings) → AreLike (linear_stage frame before) (linear_stage frame after)
+like_linear frame before after =
+    record { takes = λ input taken. record { planes = taken.planes; rows = taken.rows; cols = taken.cols }; shapes = λ input. refl }
+
+like_demosaic : (frame : Frame) (before after : Settings) → AreLike (demosaic_stage frame before) (demosaic_stage frame after)
+like_demosaic frame before after = record { takes = λ input taken. taken; shapes = λ input. refl }
+
+like_balance : (frame : Frame) (before after : Settings) → AreLike (balance_stage frame before) (balance_stage frame after)
+like_balance frame before after = record { takes = λ input taken. taken; shapes = λ input. refl }
+
+like_tone : (before after : Settings) → AreLike (tone_stage before) (tone_stage after)
+like_tone before after = record { takes = λ input taken. taken; shapes = λ input. refl }
+
+like_matrix : (before : List ℤ) (chosen : Option (List ℤ)) (stage : DevStage) → matrix_or chosen ≡ Ok stage → AreLike (Matrix before) stage
+like_matrix before None stage t = absurd (cc)
+like_matrix before (Some after) stage t =
+    subst (λ (new : DevStage). AreLike (Matrix before) new) (ok_is (Matrix after) stage t) (record { takes = λ input taken. taken; shapes = λ input. refl })
+
+linear_made : (frame : Frame) (settings : Settings) (stage : DevStage) → linear_or frame settings ≡ Ok stage → linear_stage frame settings ≡ stage
+linear_made frame settings stage = by (int_lt (pos 0) (span_under frame settings))
+  where
+    by : (above : Bool) → (if above then Ok (linear_stage frame settings) else Err fault.Levels) ≡ Ok stage → linear_stage frame settings ≡ stage
+    by true t = ok_is (linear_stage frame settings) stage t
+    by false t = absurd (cc)
+
+-- the stage before the change
+abbrev old_of : Frame → Settings → List ℤ → Change → DevStage
+old_of frame before matrix (key.Black black) = linear_stage frame before
+old_of frame before matrix (key.White white) = linear_stage frame before
+old_of frame before matrix (key.Demosaic kind) = demosaic_stage frame before
+old_of frame before matrix (key.Wb gains) = balance_stage frame before
+old_of frame before matrix (key.Exposure exposure) = balance_stage frame before
+old_of frame before matrix (key.Matrix choice) = Matrix matrix
+old_of frame before matrix (key.Tone curve) = tone_stage before
+
+old_at : (frame : Frame) (before : Settings) (matrix : List ℤ) (change : Change) (other : DevStage) → get_or (stages_with frame before matrix) (number_of frame change - 1) other ≡ old_of frame before matrix change
+unfolding stages_with
+old_at frame before matrix (key.Black black) other = linear_at frame (linear_stage frame before) (demosaic_stage frame before) (balance_stage frame before) (Matrix matrix) (tone_stage before) other
+old_at frame before matrix (key.White white) other = linear_at frame (linear_stage frame before) (demosaic_stage frame before) (balance_stage frame before) (Matrix matrix) (tone_stage before) other
+old_at frame before matrix (key.Demosaic kind) other = demosaic_at frame (linear_stage frame before) (demosaic_stage frame before) (balance_stage frame before) (Matrix matrix) (tone_stage before) other
+old_at frame before matrix (key.Wb gains) other =
+    last_at frame (linear_stage frame before) (demosaic_stage frame before) (balance_stage frame before) (Matrix matrix) (tone_stage before) other (balance_stage frame before) (balance_number frame - 1) 1 (omega arith) refl
+old_at frame before matrix (key.Exposure exposure) other =
+    last_at frame (linear_stage frame before) (demosaic_stage frame before) (balance_stage frame before) (Matrix matrix) (tone_stage before) other (balance_stage frame before) (balance_number frame - 1) 1 (omega arith) refl
+old_at frame before matrix (key.Matrix choice) other =
+    last_at frame (linear_stage frame before) (demosaic_stage frame before) (balance_stage frame before) (Matrix matrix) (tone_stage before) other (Matrix matrix) (balance_number frame + 1 - 1) 2 (omega arith) refl
+old_at frame before matrix (key.Tone curve) other =
+    last_at frame (linear_stage frame before) (demosaic_stage frame before) (balance_stage frame before) (Matrix matrix) (tone_stage before) other (tone_stage before) (balance_number frame + 2 - 1) 3 (omega arith) refl
+
+-- the stage after it is like that one
+new_like : (frame : Frame) (before : Settings) (matrix : List ℤ) (change : Change) (stage : DevStage) → touched frame (changed change before) change ≡ Ok stage → AreLike (old_of frame before matrix change) stage
+new_like frame before matrix (key.Black black) stage t =
+    subst (λ (new : DevStage). AreLike (linear_stage frame before) new) (linear_made frame (changed (key.Black black) before) stage t) (like_linear frame before (changed (key.Black black) before))
+new_like frame before matrix (key.White white) stage t =
+    subst (λ (new : DevStage). AreLike (linear_stage frame before) new) (linear_made frame (changed (key.White white) before) stage t) (like_linear frame before (changed (key.White white) before))
+new_like frame before matrix (key.Demosaic kind) stage t =
+    subst (λ (new : DevStage). AreLike (demosaic_stage frame before) new) (ok_is (demosaic_stage frame (changed (key.Demosaic kind) before)) stage t) (like_demosaic frame before (changed (key.Demosaic kind) before))
+new_like frame before matrix (key.Wb gains) stage t =
+    subst (λ (new : DevStage). AreLike (balance_stage frame before) new) (ok_is (balance_stage frame (changed (key.Wb gains) before)) stage t) (like_balance frame before (changed (key.Wb gains) before))
+new_like frame before matrix (key.Exposure exposure) stage t =
+    subst (λ (new : DevStage). AreLike (balance_stage frame before) new) (ok_is (balance_stage frame (changed (key.Exposure exposure) before)) stage t) (like_balance frame before (changed (key.Exposure exposure) before))
+new_like frame before matrix (key.Matrix choice) stage t = like_matrix matrix (chosen_matrix frame.colour choice) stage t
+new_like frame before matrix (key.Tone curve) stage t =
+    subst (λ (new : DevStage). AreLike (tone_stage before) new) (ok_is (tone_stage (changed (key.Tone curve) before)) stage t) (like_tone before (changed (key.Tone curve) before))
+
+are_like : (frame : Frame) (change : Change) (before : Settings) (stages : List DevStage) (stage old : DevStage) → Has frame before stages → touched frame (changed change before) change ≡ Ok stage → slice_get stages (number_of frame change - 1) ≡ Some old → AreLike old stage
+are_like frame change before stages stage old h t at =
+    let is : old_of frame before h.matrix change ≡ old =
+    sym (old_at frame before h.matrix change old)
+    ∙ ap (λ (xs : List DevStage). get_or xs (number_of frame change - 1) old) h.are
+    ∙ get_or_from_slice_get stages (number_of frame change - 1) old old at in
+    subst (λ (o : DevStage). AreLike o stage) is (new_like frame before h.matrix change stage t)
+
+-- the stages of settings, after a change of them
+becomes : (frame : Frame) (change : Change) (before : Settings) (stages : List DevStage) (stage : DevStage) → planned frame before ≡ Ok stages → touched frame (changed change before) change ≡ Ok stage
+    → Becomes frame (changed change before) stages (number_of frame change) stage
+becomes frame change before stages stage planned_before t =
+    let h = has frame before stages planned_before in
+    let places = numbered frame change before stages h in
+    record { low = places.0; high = places.1; all = are_replaced frame change before stages stage h t; like = λ old at. are_like frame change before stages stage old h t at }
+
 pub replaces : (frame : Frame) (change : Change) (after : Settings) (number : ℕ) (stage : DevStage) → number ≡ number_of frame change → touched frame after change ≡ Ok stage → Replaces frame change after number stage
 replaces frame change after number stage is t before stages same planned_before =
-    let h = has frame before stages planned_before in
-    let new : AreReplaced frame change before stages stage = are_replaced frame change before stages stage h (subst (λ (settings : Settings). touched frame settings change ≡ Ok stage) same t) in
-    let places = numbered frame change before stages h in (
-      subst (λ (n : ℕ). 1 ≤ n) (sym is) places.0,
-      subst (λ (n : ℕ). n ≤ length stages) (sym is) places.1,
-      subst (λ (n : ℕ). planned frame after ≡ Ok (replaced n stage stages)) (sym is) (subst (λ (settings : Settings). planned frame settings ≡ Ok (replaced (number_of frame change) stage stages)) (sym same) new),
-    )
+    subst (λ (n : ℕ). Becomes frame after stages n stage) (sym is)
+    (subst (λ (settings : Settings). Becomes frame settings stages (number_of frame change) stage) (sym same)
+    (becomes frame change before stages stage planned_before (subst (λ (settings : Settings). touched frame settings change ≡ Ok stage) same t)))
 
 -- there are no stages where the one that is touched is refused
 are_refused : (frame : Frame) (change : Change) (before : Settings) (stages : List DevStage) (refusal : PlanFault) → Has frame before stages → touched frame (changed change before) change ≡ Err refusal → planned frame (changed change before) ≡ Err refusal

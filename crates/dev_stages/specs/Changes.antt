@@ -1,11 +1,13 @@
 -- Which stage a change of settings touches: this project's own.
-use Rattle.std.specs.Prelude.{◌≡◌, ℕ, ◌+◌, ◌-◌, ◌≤◌, if◌then◌else◌, ℤ, pos, int_lt, List, length, slice_set, Option, None, Some, Result, Ok, Err}
+use Rattle.std.specs.Prelude.{◌≡◌, ℕ, ◌+◌, ◌-◌, ◌≤◌, if◌then◌else◌, ℤ, pos, int_lt, List, length, slice_get, slice_set, Option, None, Some, Result, Ok, Err}
+use Rattle.plane_view.specs.declared.Shape.{Shape}
 use Rattle.dng_tags.specs.declared.record.Frame.{Frame}
 use Rattle.dev_settings.specs.Settings.{changed}
 use Rattle.dev_settings.specs.declared.settings.Change.{Change}
 use Rattle.dev_settings.specs.declared.settings.Change.TheVariants as change
 use Rattle.dev_settings.specs.declared.settings.Settings.{Settings}
 use Rattle.dev_stages.specs.Listed.{listed}
+use Rattle.dev_stages.specs.Members.{shaped_of, takes_of}
 use Rattle.dev_stages.specs.Plans.{balance_stage, chosen_matrix, demosaic_stage, linear_stage, planned, span_under, tone_stage}
 use Rattle.dev_stages.specs.declared.fault.PlanFault.{PlanFault}
 use Rattle.dev_stages.specs.declared.fault.PlanFault.TheVariants as fault
@@ -57,12 +59,24 @@ touched frame settings (change.Tone curve) = Ok (tone_stage settings)
 abbrev pub replaced : ℕ → DevStage → List DevStage → List DevStage
 replaced number stage stages = slice_set stages (number - 1) stage
 
+-- a stage in the place of another one: it takes what that one takes, and makes planes of the same shapes
+pub record AreLike (old new : DevStage) : Type 0 where
+  pub takes : (input : Shape) → takes_of old input → takes_of new input
+  pub shapes : (input : Shape) → shaped_of new input ≡ shaped_of old input
+
+-- stages that become those of other settings where the one of a number, counted from 1, becomes another one
+pub record Becomes (frame : Frame) (after : Settings) (stages : List DevStage) (number : ℕ) (stage : DevStage) : Type 0 where
+  pub low : 1 ≤ number
+  pub high : number ≤ length stages
+  pub all : planned frame after ≡ Ok (replaced number stage stages)
+  pub like : (old : DevStage) → slice_get stages (number - 1) ≡ Some old → AreLike old stage
+
 -- whatever settings had the change made to them: where they have stages, those after it are the same but for the one of
 -- this number
 abbrev pub Replaces : Frame → Change → Settings → ℕ → DevStage → Type 0
 Replaces frame change after number stage =
     (before : Settings) (stages : List DevStage) → after ≡ changed change before → planned frame before ≡ Ok stages
-    → (1 ≤ number) × (number ≤ length stages) × (planned frame after ≡ Ok (replaced number stage stages))
+    → Becomes frame after stages number stage
 
 -- there is this refusal in place of stages
 abbrev pub Refuses : Frame → Change → Settings → PlanFault → Type 0

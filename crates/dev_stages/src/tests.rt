@@ -1,14 +1,128 @@
 //! Tests of the stages of small frames.
-ghost use Rattle.dev_settings.specs.Ranges.{ChangeInRange};
+ghost use Rattle.std.specs.Prelude.{◌<◌, IfOk};
+ghost use Rattle.dev_settings.specs.Ranges.{ChangeInRange, SettingsInRange};
+ghost use Rattle.opcode_list.specs.Params.{CanRun};
+ghost use Rattle.dev_stages.specs.Plannable.{IsPlannable};
 
-use crate::{DevStage, PlanFault, plan};
+use crate::listed::moved;
+use crate::{DevStage, PlanFault, plan, stage_of};
 use dev_settings::{Change, MatrixChoice, Settings};
-use dng_tags::read_frame;
+use dng_tags::{Frame, read_frame};
+use malvar::{Demosaic, Kind};
+use opcode_list::Opcode;
+use plane_view::Rect;
 use std::alloc::{AllocError, Global};
 use std::test::Fail;
-use test_frames::flat;
+use test_frames::bright_red;
 use tiff_dirs::Order;
 use tiff_write::Field;
+use tone_table::Curve;
+
+/// The lists 1, 2 and 3 of a frame.
+#[derive(Clone, Copy)]
+struct Lists<'a> {
+    first: &'a [u8],
+    second: &'a [u8],
+    third: &'a [u8],
+}
+
+/// A list of no opcode.
+const NONE: [u8; 4] = [0; 4];
+
+/// A list of a WarpRectilinear, which may be passed over, and a FixBadPixelsConstant of 1600.
+const SKIP_AND_MEND: [u8; 44] = [
+    0, 0, 0, 2, 0, 0, 0, 1, 1, 3, 0, 0, 0, 0, 0, 1, 0, 0, 0, 0, 0, 0, 0, 4, 1, 3, 0, 0, 0, 0, 0, 0,
+    0, 0, 0, 8, 0, 0, 6, 64, 0, 0, 0, 0,
+];
+
+/// A list of a TrimBounds of rows 1 to 8 and columns 0 to 8.
+const TRIM: [u8; 36] = [
+    0, 0, 0, 1, 0, 0, 0, 6, 1, 3, 0, 0, 0, 0, 0, 0, 0, 0, 0, 16, 0, 0, 0, 1, 0, 0, 0, 0, 0, 0, 0,
+    8, 0, 0, 0, 8,
+];
+
+/// A list of a MapTable of the one entry 4660 over 8 rows and 8 columns.
+const MAP: [u8; 58] = [
+    0, 0, 0, 1, 0, 0, 0, 7, 1, 3, 0, 0, 0, 0, 0, 0, 0, 0, 0, 38, 0, 0, 0, 0, 0, 0, 0, 0, 0, 0, 0,
+    8, 0, 0, 0, 8, 0, 0, 0, 0, 0, 0, 0, 1, 0, 0, 0, 1, 0, 0, 0, 1, 0, 0, 0, 1, 18, 52,
+];
+
+/// No opcodes.
+fn no_lists() -> Lists<'static> {
+    Lists {
+        first: &NONE,
+        second: &NONE,
+        third: &NONE,
+    }
+}
+
+/// An opcode of each kind but a FixBadPixelsList.
+fn some_lists() -> Lists<'static> {
+    Lists {
+        first: &SKIP_AND_MEND,
+        second: &TRIM,
+        third: &MAP,
+    }
+}
+
+/// An entry of the type UNDEFINED.
+fn undefined(alloc: Global, tag: u16, bytes: &[u8]) -> Result<Field, AllocError> {
+    let mut field = Field::bytes(alloc, tag, bytes)?;
+    field.kind = 7;
+    Ok(field)
+}
+
+/// The bright-red frame with a first forward matrix, and opcode lists.
+#[tactic(auto, using(crate::proofs::PlanLemmas::plannable))]
+fn frame_of(alloc: Global, lists: Lists<'_>) -> Result<Frame, AllocError>
+    ensures { IfOk result IsPlannable }
+{
+    let identity = [
+        (1, 1),
+        (0, 1),
+        (0, 1),
+        (0, 1),
+        (1, 1),
+        (0, 1),
+        (0, 1),
+        (0, 1),
+        (1, 1),
+    ];
+    let frame = bright_red(alloc)?.with(Field::signed_rationals(alloc, 50964, &identity)?)?;
+    let frame = frame.with(undefined(alloc, 51008, lists.first)?)?;
+    let frame = frame.with(undefined(alloc, 51009, lists.second)?)?;
+    let frame = frame.with(undefined(alloc, 51022, lists.third)?)?;
+    let bytes = frame.bytes(alloc, Order::Little)?;
+    if bytes.len() > 4096 {
+        return Err(AllocError);
+    }
+    match read_frame(alloc, &bytes) {
+        Ok(frame) => Ok(frame),
+        Err(_) => Err(AllocError),
+    }
+}
+
+/// The standard settings after a change.
+fn settings_after(change: &Change) -> Settings
+    requires { ChangeInRange change.now }
+    ensures { SettingsInRange result }
+{
+    let mut settings = Settings::standard();
+    settings.apply(change);
+    settings
+}
+
+/// The stages of the bright-red frame with lists, after a change of the standard settings.
+fn planned(
+    alloc: Global,
+    lists: Lists<'_>,
+    change: &Change,
+) -> Result<Result<Vec<DevStage>, PlanFault>, AllocError>
+    requires { ChangeInRange change.now }
+{
+    let frame = frame_of(alloc, lists)?;
+    Ok(plan(alloc, &frame, &settings_after(change)))
+}
 
 /// The name of a stage's kind.
 fn name(stage: &DevStage) -> &'static str {
@@ -25,40 +139,16 @@ fn name(stage: &DevStage) -> &'static str {
     }
 }
 
-/// The stages of the flat frame with a first forward matrix, after a change of the standard settings.
-#[tactic(auto, using(crate::proofs::PlanLemmas::plannable))]
-fn planned(alloc: Global, change: &Change) -> Result<Result<Vec<DevStage>, PlanFault>, AllocError>
-    requires { ChangeInRange change.now }
-{
-    let identity = [
-        (1, 1),
-        (0, 1),
-        (0, 1),
-        (0, 1),
-        (1, 1),
-        (0, 1),
-        (0, 1),
-        (0, 1),
-        (1, 1),
-    ];
-    let frame = flat(alloc)?.with(Field::signed_rationals(alloc, 50964, &identity)?)?;
-    let bytes = frame.bytes(alloc, Order::Little)?;
-    if bytes.len() > 4096 {
-        return Err(AllocError);
-    }
-    let Ok(frame) = read_frame(alloc, &bytes) else {
-        return Err(AllocError);
-    };
-    let mut settings = Settings::standard();
-    settings.apply(change);
-    Ok(plan(alloc, &frame, &settings))
-}
-
 /// Whether the stages after a change have these kinds, in this order.
-fn has_kinds(alloc: Global, change: &Change, names: &[&str]) -> Result<bool, AllocError>
+fn has_kinds(
+    alloc: Global,
+    lists: Lists<'_>,
+    change: &Change,
+    names: &[&str],
+) -> Result<bool, AllocError>
     requires { ChangeInRange change.now }
 {
-    match planned(alloc, change)? {
+    match planned(alloc, lists, change)? {
         Ok(stages) => Ok(
             stages.len() == names.len()
                 && stages
@@ -74,7 +164,7 @@ fn has_kinds(alloc: Global, change: &Change, names: &[&str]) -> Result<bool, All
 fn is_refused(alloc: Global, change: &Change, fault: PlanFault) -> Result<bool, AllocError>
     requires { ChangeInRange change.now }
 {
-    match planned(alloc, change)? {
+    match planned(alloc, no_lists(), change)? {
         Ok(_) => Ok(false),
         Err(other) => Ok(other == fault),
     }
@@ -85,9 +175,41 @@ fn are_alike(alloc: Global, change: &Change, other: &Change) -> Result<bool, All
     requires one { ChangeInRange change.now }
     requires other { ChangeInRange other.now }
 {
-    match (planned(alloc, change)?, planned(alloc, other)?) {
+    match (
+        planned(alloc, no_lists(), change)?,
+        planned(alloc, no_lists(), other)?,
+    ) {
         (Ok(stages), Ok(others)) => Ok(stages == others),
         _ => Ok(false),
+    }
+}
+
+/// Whether a change touches the stage of a number, counted from 1, and makes the one that is there among all stages.
+fn touches(alloc: Global, lists: Lists<'_>, change: &Change, want: u32) -> Result<bool, AllocError>
+    requires { ChangeInRange change.now }
+{
+    let frame = frame_of(alloc, lists)?;
+    let settings = settings_after(change);
+    let Ok((number, stage)) = stage_of(alloc, &frame, &settings, change) else {
+        return Ok(false);
+    };
+    let Ok(stages) = plan(alloc, &frame, &settings) else {
+        return Ok(false);
+    };
+    let place = (number as usize).saturating_sub(1);
+    Ok(number == want && stages.get(place) == Some(&stage))
+}
+
+/// Whether the demosaicing of the bright-red frame with lists has a pattern.
+fn has_pattern(alloc: Global, lists: Lists<'_>, want: &Demosaic) -> Result<bool, AllocError> {
+    match planned(alloc, lists, &Change::Demosaic(Kind::Malvar))? {
+        Ok(stages) => Ok(
+            stages.iter().any(|stage| match stage {
+                DevStage::Demosaic(made) => made == want,
+                _ => false,
+            }),
+        ),
+        Err(_) => Ok(false),
     }
 }
 
@@ -103,12 +225,31 @@ fn plans(rt: HostRuntime) -> Result<(), Fail> {
         "matrix",
         "tone",
     ];
-    assert!(rt; has_kinds(alloc, &Change::Black(None), &names)?);
-    assert!(rt; has_kinds(alloc, &Change::Matrix(MatrixChoice::Forward1), &names)?);
+    assert!(rt; has_kinds(alloc, no_lists(), &Change::Black(None), &names)?);
+    let first = Change::Matrix(MatrixChoice::Forward1);
+    assert!(rt; has_kinds(alloc, no_lists(), &first, &names)?);
     let second = Change::Matrix(MatrixChoice::Forward2);
     assert!(rt; is_refused(alloc, &second, PlanFault::Matrix)?);
     assert!(rt; is_refused(alloc, &Change::Black(Some(65_535)), PlanFault::Levels)?);
-    assert!(rt; has_kinds(alloc, &Change::Black(Some(65_534)), &names)?);
+    assert!(rt; has_kinds(alloc, no_lists(), &Change::Black(Some(65_534)), &names)?);
+    Ok(())
+}
+
+#[test]
+fn plans_lists(rt: HostRuntime) -> Result<(), Fail> {
+    let names = [
+        "constant",
+        "crop",
+        "linearise",
+        "crop",
+        "demosaic",
+        "map",
+        "crop",
+        "balance",
+        "matrix",
+        "tone",
+    ];
+    assert!(rt; has_kinds(rt.alloc(), some_lists(), &Change::Black(None), &names)?);
     Ok(())
 }
 
@@ -121,4 +262,90 @@ fn equal_settings_give_equal_stages(rt: HostRuntime) -> Result<(), Fail> {
     assert!(rt; are_alike(alloc, &auto, &Change::Black(Some(0)))?);
     assert!(rt; !are_alike(alloc, &auto, &Change::Exposure(1025))?);
     Ok(())
+}
+
+#[test]
+fn changes_touch_one_stage(rt: HostRuntime) -> Result<(), Fail> {
+    let alloc = rt.alloc();
+    for (change, plain, with_lists) in [
+        (Change::Black(Some(7)), 2, 3),
+        (Change::White(Some(9)), 2, 3),
+        (Change::Demosaic(Kind::Bilinear), 3, 5),
+        (Change::Wb(None), 5, 8),
+        (Change::Exposure(1025), 5, 8),
+        (Change::Matrix(MatrixChoice::Camera), 6, 9),
+        (Change::Tone(Curve::Root), 7, 10),
+    ] {
+        assert!(rt; touches(alloc, no_lists(), &change, plain)?);
+        assert!(rt; touches(alloc, some_lists(), &change, with_lists)?);
+    }
+    Ok(())
+}
+
+#[test]
+fn trims_of_list_2_move_the_pattern(rt: HostRuntime) -> Result<(), Fail> {
+    let alloc = rt.alloc();
+    let plain = no_lists();
+    let red_first = Demosaic::new(Kind::Malvar, [0, 1, 1, 2]);
+    let green_first = Demosaic::new(Kind::Malvar, [1, 2, 0, 1]);
+    assert!(rt; has_pattern(alloc, plain, &red_first)?);
+    assert!(rt;
+        has_pattern(
+            alloc,
+            Lists {
+                first: &TRIM,
+                ..plain
+            },
+            &red_first
+        )?
+    );
+    assert!(rt;
+        has_pattern(
+            alloc,
+            Lists {
+                second: &TRIM,
+                ..plain
+            },
+            &green_first
+        )?
+    );
+    assert!(rt;
+        has_pattern(
+            alloc,
+            Lists {
+                third: &TRIM,
+                ..plain
+            },
+            &red_first
+        )?
+    );
+    Ok(())
+}
+
+/// A trim whose top left pixel is at a row and a column.
+fn trim(top: u32, left: u32) -> Opcode
+    requires rows { top < 100 }
+    requires cols { left < 100 }
+    ensures { CanRun result }
+{
+    Opcode::Trim {
+        rect: Rect {
+            top,
+            left,
+            bottom: 100,
+            right: 100,
+        },
+    }
+}
+
+#[test]
+fn moves_patterns(rt: HostRuntime) {
+    let red_first = [0, 1, 1, 2];
+    let skipped = Opcode::Skipped { id: 1 };
+    assert_eq!(rt; moved(&[], red_first), red_first);
+    assert_eq!(rt; moved(&[skipped, trim(2, 4)], red_first), red_first);
+    assert_eq!(rt; moved(&[trim(3, 0)], red_first), [1, 2, 0, 1]);
+    assert_eq!(rt; moved(&[trim(0, 5)], red_first), [1, 0, 2, 1]);
+    assert_eq!(rt; moved(&[trim(1, 1)], red_first), [2, 1, 1, 0]);
+    assert_eq!(rt; moved(&[trim(1, 0), trim(1, 1)], red_first), [1, 0, 2, 1]);
 }
