@@ -4,6 +4,7 @@ mod Images
 mod Openings
 mod Outsides
 mod Pieces
+mod SettingsFiles
 mod Development
 mod NamedWords
 mod Written

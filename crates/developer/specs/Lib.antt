@@ -1,6 +1,8 @@
 pub mod CommandLine
 pub mod Words
 pub mod Shown
+pub mod SettingsFile
+pub mod Planning
 pub mod Develop
 pub mod Refusals
 pub mod Opening

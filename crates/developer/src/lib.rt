@@ -9,6 +9,7 @@ mod develop;
 mod opening;
 mod program;
 mod script;
+mod settings;
 mod status;
 mod words;
 mod writing;
