@@ -1,5 +1,6 @@
 -- The raw plane of a frame, and what is developed of it.
-use Rattle.std.proofs.Common.{◌≡◌, ℕ, List, [], ◌∷◌, ◌++◌, refl, sym, ◌∙◌, ap}
+use Rattle.std.proofs.Common.{◌≡◌, ℕ, ℤ, pos, int_lt, cond, true, false, List, [], ◌∷◌, ◌++◌, Option, None, Some, Ok, Err, refl, sym, ◌∙◌, ap}
+use Rattle.std.specs.Prelude.{unwrap_or}
 use Rattle.plane_view.specs.Plane.{Plane}
 use Rattle.stage_core.specs.Stages.{shape_of}
 use Rattle.stage_chain.specs.Chains.{whole_of}
@@ -10,10 +11,13 @@ use Rattle.dev_stages.specs.Members.{apply_of}
 use Rattle.opcode_list.specs.declared.opcode.Opcode.{Opcode}
 use Rattle.opcode_list.specs.declared.opcode.Opcode.TheVariants.{FixConstant, FixList, Map, Skipped, Trim}
 use Rattle.dev_stages.specs.Listed.{listed}
-use Rattle.dev_stages.specs.Plans.{in_order, stages_with}
+use Rattle.dev_stages.specs.Plans.{chosen_matrix, in_order, planned, planned_with, span_under, stages_with}
 use Rattle.dev_stages.specs.declared.stage.DevStage.{DevStage}
 use Rattle.dev_stages.specs.declared.stage.DevStage.TheVariants as stage
-use Rattle.developer.specs.Develop.{standard_stages}
+use Rattle.colour_matrix.specs.Matrices.{camera_matrix}
+use Rattle.dev_settings.specs.declared.settings.Settings.{Settings}
+use Rattle.dev_stages.specs.declared.fault.PlanFault.TheVariants as fault
+use Rattle.developer.specs.Develop.{develop, stages_under}
 
 -- the shape of a raw plane
 pub shape_of_raw : (bytes : List ℕ) (frame : Frame) → IsFrame frame bytes → shape_of (raw bytes frame) ≡ frame.shape
@@ -41,9 +45,32 @@ three_after : (opcodes : List Opcode) (rest : List DevStage) (P : Plane) → ((Q
 three_after opcodes rest P keep three =
     ap (λ (Q : Plane). Q.planes) (whole_on (listed opcodes) rest P) ∙ keep (whole_of apply_of (listed opcodes) P) (planes_left opcodes P ∙ three)
 
--- a developed plane has three planes
-pub three_planes : (frame : Frame) (P : Plane) → (whole_of apply_of (standard_stages frame) P).planes ≡ 3
+-- the stages by a matrix leave three planes
+three_with : (frame : Frame) (settings : Settings) (matrix : List ℤ) (P : Plane) → (whole_of apply_of (stages_with frame settings matrix) P).planes ≡ 3
 unfolding stages_with in_order
-three_planes frame P =
+three_with frame settings matrix P =
     ap (λ (Q : Plane). Q.planes) (whole_on (listed frame.list1) _ P)
     ∙ (ap (λ (Q : Plane). Q.planes) (whole_on (listed frame.list2) _ _) ∙ three_after frame.list3 _ _ (λ Q three. three) refl)
+
+-- stages that are planned, by the matrix that is chosen
+planned_by : (frame : Frame) (settings : Settings) (matrix : Option (List ℤ)) (stages : List DevStage) → planned_with frame settings matrix ≡ Ok stages → stages ≡ stages_with frame settings (unwrap_or matrix camera_matrix)
+planned_by frame settings None stages is = cc
+planned_by frame settings (Some matrix) stages is = (elim (int_lt (pos 0) (span_under frame settings)) as (λ above. cond above (Ok (stages_with frame settings matrix)) (Err fault.Levels) ≡ Ok stages → stages ≡ stages_with frame settings matrix) [
+  | true ↦ λ is. cc
+  | false ↦ λ is. cc
+]) is
+
+-- they are those of the development
+planned_stages : (frame : Frame) (settings : Settings) (stages : List DevStage) → planned frame settings ≡ Ok stages → stages ≡ stages_under frame settings
+planned_stages frame settings stages is = planned_by frame settings (chosen_matrix frame.colour settings.matrix) stages is
+
+-- they leave three planes
+pub three_planes : (frame : Frame) (settings : Settings) (stages : List DevStage) (P : Plane) → planned frame settings ≡ Ok stages → (whole_of apply_of stages P).planes ≡ 3
+three_planes frame settings stages P is =
+    ap (λ (xs : List DevStage). (whole_of apply_of xs P).planes) (planned_stages frame settings stages is)
+    ∙ three_with frame settings (unwrap_or (chosen_matrix frame.colour settings.matrix) camera_matrix) P
+
+-- and make the development
+pub planned_develops : (bytes : List ℕ) (frame : Frame) (settings : Settings) (stages : List DevStage) → planned frame settings ≡ Ok stages → whole_of apply_of stages (raw bytes frame) ≡ develop bytes frame settings
+unfolding develop
+planned_develops bytes frame settings stages is = ap (λ (xs : List DevStage). whole_of apply_of xs (raw bytes frame)) (planned_stages frame settings stages is)

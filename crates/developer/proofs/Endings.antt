@@ -86,7 +86,12 @@ pub complete : (call : Call) (status : Status) → Ends call status → Complete
 complete call Done e calm = inl e.0
 complete call Usage e calm = inl (refused_called (opening call) call.before.left call.written Usage e.1)
 complete call statuses.Frame e calm = inl (refused_called (opening call) call.before.left call.written statuses.Frame e.0)
+complete call statuses.Settings e calm = inl (refused_called (opening call) call.before.left call.written statuses.Settings e.0)
 complete call ScriptTooLong e calm = inl e.0
-complete call ReadFault e calm = absurd (elim e.2.2 [ inl r ↦ calm.files e.2.0.frame r | inr r ↦ calm.script r.0 ])
+complete call ReadFault e calm = absurd (elim e.2.2 [
+  | inl (inl r) ↦ calm.files e.2.0.frame r
+  | inl (inr u) ↦ calm.files u.0 u.2
+  | inr r ↦ calm.script r.0
+])
 complete call WriteFault e calm = absurd (calm.sink e.0)
 complete call Memory e calm = inr (refl, e)

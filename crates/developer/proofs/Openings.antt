@@ -1,6 +1,6 @@
 -- What is called for before the script, of a file that was read.
-use Rattle.std.proofs.Common.{◌≡◌, ◌≢◌, ℕ, ◌^◌, ◌<◌, ◌≤◌, List, length, Option, None, Some, Result, Ok, Err, refl, ◌∙◌, ap, subst}
-use Rattle.std.specs.Prelude.{IfSome, IsErrOf}
+use Rattle.std.proofs.Common.{◌≡◌, ◌≢◌, ℕ, ◌^◌, ◌<◌, ◌≤◌, List, length, Option, None, Some, Result, Ok, Err, inl, inr, refl, sym, ◌∙◌, ap, subst}
+use Rattle.std.specs.Prelude.{IfSome, IsErrOf, IsOk}
 use Rattle.std.proofs.lemmas.Bool.{le-ltb, lt-ltb}
 use Rattle.raw_io.specs.Outside.{Rises}
 use Rattle.raw_io.specs.declared.whole.ReadFault.{ReadFault}
@@ -12,9 +12,19 @@ use Rattle.dng_tags.specs.declared.record.Frame.{Frame}
 use Rattle.tag_rules.specs.declared.faults.FrameFault.{FrameFault}
 use Rattle.tag_rules.specs.declared.faults.FrameFault.TheVariants.{TooLong}
 use Rattle.tag_rules.specs.declared.faults.FrameFault.TheVariants as frames
-use Rattle.developer.specs.Opening.{Opening, file_frame, if_decoded, opened_as, opened_file, refused_frame}
-use Rattle.developer.specs.Opens.{OpensFile, open_fault, refused_or_memory}
-use Rattle.developer.proofs.Outsides.{if_some}
+use Rattle.plane_view.specs.Plane.{Plane}
+use Rattle.dev_settings.specs.declared.settings.Settings.{Settings}
+use Rattle.developer.specs.Opening.{FrameFile, Opening, Transcript, file_frame, frame_as, if_decoded, opened_by, opened_for, opened_named, opened_next, opened_under, refused_frame, refused_settings, told_frame}
+use Rattle.developer.specs.Opens.{Opens, OpensFiles, open_fault, refused_or_memory, stopped}
+use Rattle.developer.specs.Planning.{PlansUnder, seen}
+use Rattle.developer.specs.SettingsFile.{Refused, file_settings}
+use Rattle.developer.specs.Words.{Options}
+use Rattle.developer.specs.declared.opening.OpenFault.{OpenFault}
+use Rattle.developer.specs.declared.opening.OpenFault.TheVariants as openings
+use Rattle.developer.specs.declared.settings.Planned.{Planned}
+use Rattle.developer.specs.declared.settings.SettingsStop.{SettingsStop}
+use Rattle.developer.specs.declared.settings.SettingsStop.TheVariants as stops
+use Rattle.developer.proofs.Outsides.{if_some, rises_last}
 
 -- a file that is too long
 too_long : (bytes : List ℕ) → 2 ^ 28 < length bytes → file_frame bytes ≡ Err TooLong
@@ -37,28 +47,85 @@ file_decoded bytes frame refusal short is decoded =
     ∙ (ap (λ (r : Result Frame FrameFault). and_then r (λ f. if_decoded f (undecoded bytes f))) is ∙ ap (if_decoded frame) decoded)
 
 -- what a file that is told calls for
-called_file : (contents : Option (List ℕ)) (frame : Opening) → IfSome contents (λ bytes. opened_as bytes (file_frame bytes) ≡ frame) → IfSome (opened_file contents) (λ o. o ≡ frame)
-called_file None frame h = tt
-called_file (Some bytes) frame h = h
+called_frame : (contents : Option (List ℕ)) (frame : Result FrameFile Transcript) → IfSome contents (λ bytes. frame_as bytes (file_frame bytes) ≡ frame) → IfSome (told_frame contents) (λ o. o ≡ frame)
+called_frame None frame h = tt
+called_frame (Some bytes) frame h = h
 
--- a failed read of a file
-pub file_unread : {T : Type 0} (contents : Option (List ℕ)) (before after : ℕ) (fault : ReadFault)
-    → (IsErrOf {T = T} (Err fault) reads.TooLong → IfSome contents (λ bytes. 2 ^ 28 < length bytes)) → (IsErrOf {T = T} (Err fault) reads.Failed → Rises before after)
-    → OpensFile contents before after (Err (open_fault fault))
-file_unread contents before after reads.TooLong long failed =
-    called_file contents (Err (refused_frame TooLong))
-    (if_some contents (λ bytes. 2 ^ 28 < length bytes) (λ bytes. opened_as bytes (file_frame bytes) ≡ Err (refused_frame TooLong)) (λ bytes h. ap (opened_as bytes) (too_long bytes h)) (long refl))
-file_unread contents before after reads.Failed long failed = failed refl
-file_unread contents before after reads.Memory long failed = tt
+-- a frame that is refused
+next_refused : (o : Option (Result FrameFile Transcript)) (refusal : Transcript) (name : Option (List ℕ)) (told : List ℕ → Option (List ℕ)) → IfSome o (λ f. f ≡ Err refusal) → IfSome (opened_next o name told) (λ x. x ≡ Err refusal)
+next_refused None refusal name told h = tt
+next_refused (Some f) refusal name told h = subst (λ (f : Result FrameFile Transcript). IfSome (opened_next (Some f) name told) (λ x. x ≡ Err refusal)) (sym h) refl
 
--- a file that was read
-pub file_read : (contents : Option (List ℕ)) (bytes : List ℕ) (frame : Result Frame FrameFault) → IfSome contents (λ told. bytes ≡ told) → file_frame bytes ≡ frame → IfSome (opened_file contents) (λ o. o ≡ opened_as bytes frame)
-file_read contents bytes frame told is =
-    called_file contents (opened_as bytes frame)
-    (if_some contents (λ (all : List ℕ). bytes ≡ all) (λ all. opened_as all (file_frame all) ≡ opened_as bytes frame)
-    (λ all h. subst (λ (b : List ℕ). opened_as b (file_frame b) ≡ opened_as bytes frame) h (ap (opened_as bytes) is)) told)
+-- a frame that is accepted
+next_accepted : (o : Option (Result FrameFile Transcript)) (file : FrameFile) (name : Option (List ℕ)) (told : List ℕ → Option (List ℕ)) (P : Opening → Type 0) → IfSome o (λ f. f ≡ Ok file) → IfSome (opened_named file name told) P → IfSome (opened_next o name told) P
+next_accepted None file name told P h p = tt
+next_accepted (Some f) file name told P h p = subst (λ (f : Result FrameFile Transcript). IfSome (opened_next (Some f) name told) P) (sym h) p
 
--- a file that is refused, unless there was no memory
-pub file_refuses : (contents : Option (List ℕ)) (before after : ℕ) (bytes : List ℕ) (fault : FrameFault) → IfSome contents (λ told. bytes ≡ told) → (fault ≢ frames.Memory → file_frame bytes ≡ Err fault) → OpensFile contents before after (Err (refused_or_memory fault))
-file_refuses contents before after bytes frames.Memory told is = tt
-file_refuses contents before after bytes fault told is = file_read contents bytes (Err fault) told (is (λ e. cc))
+-- settings of a file, where it is told
+under_wanted : (file : FrameFile) (contents : Option (List ℕ)) (wanted : Result Settings Refused) → IfSome contents (λ bytes. file_settings file.frame bytes ≡ wanted) → IfSome (opened_under file contents) (λ o. o ≡ opened_by file wanted)
+under_wanted file None wanted h = tt
+under_wanted file (Some bytes) wanted h = ap (opened_by file) h
+
+module _ (told : List ℕ → Option (List ℕ)) (before after : List ℕ → ℕ) (file : FrameFile) where
+  -- a frame with settings
+  pub settings_opened : (name : Option (List ℕ)) (answer : Planned) → PlansUnder file.frame told before after name (Ok answer) → IfSome (opened_named file name told) (λ o. o ≡ opened_by file (Ok answer.settings))
+  settings_opened None answer h = ap (opened_by file) h.0
+  settings_opened (Some name) answer h = under_wanted file (told name) (Ok answer.settings) h.0
+
+  -- a frame without
+  pub settings_stop : (name : Option (List ℕ)) (stop : SettingsStop) → undecoded file.bytes file.frame ≡ None → PlansUnder file.frame told before after name (Err stop) → Opens told before after file name (Err (stopped stop))
+  settings_stop None (stops.Refused refusal) decoded h = cc
+  settings_stop None stops.Unread decoded h = absurd h
+  settings_stop None stops.Memory decoded h = tt
+  settings_stop (Some name) (stops.Refused refusal) decoded h = (decoded, under_wanted file (told name) (Err (seen refusal)) h)
+  settings_stop (Some name) stops.Unread decoded h = (decoded, (name, refl, h))
+  settings_stop (Some name) stops.Memory decoded h = tt
+
+module _ (told : List ℕ → Option (List ℕ)) (before after : List ℕ → ℕ) (chosen : Options) where
+  -- a failed read of the frame's file
+  pub file_unread : {T : Type 0} (fault : ReadFault) → (IsErrOf {T = T} (Err fault) reads.TooLong → IfSome (told chosen.frame) (λ bytes. 2 ^ 28 < length bytes))
+      → (IsErrOf {T = T} (Err fault) reads.Failed → Rises (before chosen.frame) (after chosen.frame)) → OpensFiles told before after chosen (Err (open_fault fault))
+  file_unread reads.TooLong long failed =
+      next_refused (told_frame (told chosen.frame)) (refused_frame TooLong) chosen.settings told
+      (called_frame (told chosen.frame) (Err (refused_frame TooLong))
+      (if_some (told chosen.frame) (λ bytes. 2 ^ 28 < length bytes) (λ bytes. frame_as bytes (file_frame bytes) ≡ Err (refused_frame TooLong)) (λ bytes h. ap (frame_as bytes) (too_long bytes h)) (long refl)))
+  file_unread reads.Failed long failed = inl (failed refl)
+  file_unread reads.Memory long failed = tt
+
+  module _ (bytes : List ℕ) (read-as : IfSome (told chosen.frame) (λ all. bytes ≡ all)) (short : length bytes ≤ 2 ^ 28) where
+    -- a file that was read
+    file_read : (frame : Result Frame FrameFault) → file_frame bytes ≡ frame → IfSome (told_frame (told chosen.frame)) (λ o. o ≡ frame_as bytes frame)
+    file_read frame is =
+        called_frame (told chosen.frame) (frame_as bytes frame)
+        (if_some (told chosen.frame) (λ (all : List ℕ). bytes ≡ all) (λ all. frame_as all (file_frame all) ≡ frame_as bytes frame)
+        (λ all h. subst (λ (b : List ℕ). frame_as b (file_frame b) ≡ frame_as bytes frame) h (ap (frame_as bytes) is)) read-as)
+
+    -- a file that is refused, unless there was no memory
+    pub file_refuses : (fault : FrameFault) → (fault ≢ frames.Memory → frame_of bytes ≡ Err fault) → OpensFiles told before after chosen (Err (refused_or_memory fault))
+    file_refuses frames.Memory is = tt
+    file_refuses fault is = next_refused (told_frame (told chosen.frame)) (refused_frame fault) chosen.settings told (file_read (Err fault) (file_refused bytes fault short (is (λ e. cc))))
+
+    module _ (frame : Frame) (is-frame : frame_of bytes ≡ Ok frame) (mid : List ℕ → ℕ) (counts : (name : List ℕ) → before name ≤ mid name) where
+      -- a frame that is accepted
+      accepted : undecoded bytes frame ≡ None → IfSome (told_frame (told chosen.frame)) (λ o. o ≡ Ok (record { bytes = bytes; frame = frame }))
+      accepted decoded = file_read (Ok frame) (file_decoded bytes frame None short is-frame decoded)
+
+      -- and is opened
+      pub opens_ok : (answer : Settings × Plane) → Opens told mid after (record { bytes = bytes; frame = frame }) chosen.settings (Ok answer)
+          → IfSome (opened_for (Some chosen) told) (λ o. o ≡ Ok (record { bytes = bytes; frame = frame; settings = answer.0 }))
+      opens_ok answer h =
+          next_accepted (told_frame (told chosen.frame)) (record { bytes = bytes; frame = frame }) chosen.settings told (λ o. o ≡ Ok (record { bytes = bytes; frame = frame; settings = answer.0 })) (accepted h.0) h.1
+
+      -- or isn't
+      pub opens_err : (fault : OpenFault) → Opens told mid after (record { bytes = bytes; frame = frame }) chosen.settings (Err fault) → OpensFiles told before after chosen (Err fault)
+      opens_err (openings.Frame fault) h = next_refused (told_frame (told chosen.frame)) (refused_frame fault) chosen.settings told (file_read (Err fault) (file_decoded bytes frame (Some fault) short is-frame h))
+      opens_err (openings.Settings refusal) h =
+          next_accepted (told_frame (told chosen.frame)) (record { bytes = bytes; frame = frame }) chosen.settings told (λ o. o ≡ Err (refused_settings (seen refusal))) (accepted h.0) h.1
+      opens_err openings.Unread h =
+          inr (
+            h.1.0,
+            h.1.1,
+            rises_last (before h.1.0) (mid h.1.0) (after h.1.0) (counts h.1.0) h.1.2,
+            if_some (told_frame (told chosen.frame)) (λ o. o ≡ Ok (record { bytes = bytes; frame = frame })) IsOk (λ o e. subst IsOk (sym e) refl) (accepted h.0),
+          )
+      opens_err openings.Memory h = tt

@@ -1,33 +1,64 @@
 -- What opening a frame promises, before the script. This is this project's own.
-use Rattle.std.specs.Prelude.{◌≡◌, ℕ, ◌≤◌, ◌⊎◌, List, Option, IfSome, Result, Ok, Err, ⊤}
+use Rattle.std.specs.Prelude.{◌≡◌, ℕ, ◌≤◌, ◌⊎◌, List, Option, None, Some, IfSome, Result, Ok, Err, ⊤}
 use Rattle.raw_io.specs.Outside.{Appends, IsFrontOf, Rises}
 use Rattle.raw_io.specs.declared.whole.ReadFault.{ReadFault}
 use Rattle.raw_io.specs.declared.whole.ReadFault.TheVariants as reads
 use Rattle.tag_rules.specs.declared.faults.FrameFault.{FrameFault}
 use Rattle.tag_rules.specs.declared.faults.FrameFault.TheVariants as frames
-use Rattle.developer.specs.Opening.{Opened, opened_file, refused_frame}
+use Rattle.dng_tags.specs.Raw.{undecoded}
+use Rattle.dev_settings.specs.declared.settings.Settings.{Settings}
+use Rattle.plane_view.specs.Plane.{Plane}
+use Rattle.developer.specs.Develop.{develop}
+use Rattle.developer.specs.Opening.{FileUnread, FrameFile, Opened, opened_by, opened_for, opened_named, refused_frame, refused_settings}
+use Rattle.developer.specs.Planning.{seen}
+use Rattle.developer.specs.Words.{Options}
+use Rattle.developer.specs.declared.settings.SettingsStop.{SettingsStop}
+use Rattle.developer.specs.declared.settings.SettingsStop.TheVariants as stops
 use Rattle.developer.specs.declared.opening.OpenFault.{OpenFault}
-use Rattle.developer.specs.declared.opening.OpenFault.TheVariants.{Refused, Unread, Memory}
+use Rattle.developer.specs.declared.opening.OpenFault.TheVariants as openings
 use Rattle.developer.specs.declared.status.Ending.{Ending}
 use Rattle.developer.specs.declared.status.Ending.TheVariants as endings
 
--- a failed read of a file, as a reason for which a frame isn't opened
+-- a failed read of the frame's file, as a reason for which it isn't opened
 abbrev pub open_fault : ReadFault → OpenFault
-open_fault reads.TooLong = Refused frames.TooLong
-open_fault reads.Failed = Unread
-open_fault reads.Memory = Memory
+open_fault reads.TooLong = openings.Frame frames.TooLong
+open_fault reads.Failed = openings.Unread
+open_fault reads.Memory = openings.Memory
 
--- a frame's fault, as a reason for which it isn't opened
+-- a frame's fault, as such a reason
 abbrev pub refused_or_memory : FrameFault → OpenFault
-refused_or_memory frames.Memory = Memory
-refused_or_memory fault = Refused fault
+refused_or_memory frames.Memory = openings.Memory
+refused_or_memory fault = openings.Frame fault
 
--- reading the frame's file, whose contents may be told, gives what they call for; a read failed only where its count rose
-abbrev pub OpensFile : Option (List ℕ) → (before after : ℕ) → Result Opened OpenFault → Type 0
-OpensFile contents before after (Ok frame) = IfSome (opened_file contents) (λ o. o ≡ Ok frame)
-OpensFile contents before after (Err (Refused fault)) = IfSome (opened_file contents) (λ o. o ≡ Err (refused_frame fault))
-OpensFile contents before after (Err Unread) = Rises before after
-OpensFile contents before after (Err Memory) = ⊤
+-- what gives no settings, as such a reason
+abbrev pub stopped : SettingsStop → OpenFault
+stopped (stops.Refused refusal) = openings.Settings refusal
+stopped stops.Unread = openings.Unread
+stopped stops.Memory = openings.Memory
+
+-- reading the files that the words ask for, as far as they are told, gives what they call for; a read failed only where
+-- its count rose
+abbrev pub OpensFiles : (told : List ℕ → Option (List ℕ)) → (before after : List ℕ → ℕ) → Options → Result Opened OpenFault → Type 0
+OpensFiles told before after chosen (Ok frame) = IfSome (opened_for (Some chosen) told) (λ o. o ≡ Ok frame)
+OpensFiles told before after chosen (Err (openings.Frame fault)) = IfSome (opened_for (Some chosen) told) (λ o. o ≡ Err (refused_frame fault))
+OpensFiles told before after chosen (Err (openings.Settings refusal)) = IfSome (opened_for (Some chosen) told) (λ o. o ≡ Err (refused_settings (seen refusal)))
+OpensFiles told before after chosen (Err openings.Unread) = FileUnread told before after chosen
+OpensFiles told before after chosen (Err openings.Memory) = ⊤
+
+-- of a frame whose record was read, with its settings and the plane developed under them
+abbrev pub Opens : (told : List ℕ → Option (List ℕ)) → (before after : List ℕ → ℕ) → FrameFile → Option (List ℕ) → Result (Settings × Plane) OpenFault → Type 0
+Opens told before after file name (Ok answer) =
+    (undecoded file.bytes file.frame ≡ None)
+    × IfSome (opened_named file name told) (λ o. o ≡ opened_by file (Ok answer.0))
+    × (answer.1 ≡ develop file.bytes file.frame answer.0)
+Opens told before after file name (Err (openings.Frame fault)) = undecoded file.bytes file.frame ≡ Some fault
+Opens told before after file name (Err (openings.Settings refusal)) =
+    (undecoded file.bytes file.frame ≡ None)
+    × IfSome (opened_named file name told) (λ o. o ≡ Err (refused_settings (seen refusal)))
+Opens told before after file name (Err openings.Unread) =
+    (undecoded file.bytes file.frame ≡ None)
+    × ((other : List ℕ) × (name ≡ Some other) × Rises (before other) (after other))
+Opens told before after file name (Err openings.Memory) = ⊤
 
 -- a line was written whole and the run ends so, or writing it failed after a prefix
 pub record Refuses {S : Type 0} (stands_for : S → List ℕ → Type 0) (faults : S → ℕ) (old new : S) (line : List ℕ) (ending result : Ending) : Type 0 where

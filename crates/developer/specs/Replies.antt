@@ -56,7 +56,7 @@ first_state = record {}
 -- the answer to a line of the script, over an opened frame
 unfoldable pub answer_of : Opened → State → List ℕ → Answer State
 answer_of frame state line =
-    record { bytes = line_reply (develop frame.bytes frame.frame) (line_text_of line); state = state }
+    record { bytes = line_reply (develop frame.bytes frame.frame frame.settings) (line_text_of line); state = state }
 
 -- no answer has more bytes
 abbrev pub max_answer : ℕ

@@ -2,7 +2,7 @@
 use Rattle.std.specs.Prelude.{◌≡◌, ℕ, ◌<◌, ◌≤◌, ◌⊎◌, List, [], length, Option, None, Some, IfSome, Result, Ok, Err, IsOk}
 use Rattle.raw_io.specs.Outside.{IsFrontOf, Rises}
 use Rattle.developer.specs.Words.{Options, options}
-use Rattle.developer.specs.Opening.{Opening, Transcript, opened}
+use Rattle.developer.specs.Opening.{FileUnread, Opening, Transcript, opened}
 use Rattle.developer.specs.Transcript.{max_script, transcript}
 use Rattle.developer.specs.declared.status.Ending.{Ending}
 use Rattle.developer.specs.declared.status.Ending.TheVariants as endings
@@ -53,10 +53,10 @@ IsOpened call = IfSome (opening call) IsOk
 abbrev pub IsPrefix : Call → Type 0
 IsPrefix call = IfSome (called call) (λ e. IsFrontOf call.written e.bytes)
 
--- a read failed: the count of the frame's name rose, or that of the script, which is read only of an opened frame
+-- a read failed: of the files that are read before the script, or of the script, which is read only of an opened frame
 abbrev pub ReadFailed : Call → Options → Type 0
 ReadFailed call chosen =
-    Rises (call.before.file_faults chosen.frame) (call.after.file_faults chosen.frame)
+    FileUnread call.before.told call.before.file_faults call.after.file_faults chosen
     ⊎ (Rises call.before.script_faults call.after.script_faults × IsOpened call)
 
 -- what each status promises
@@ -64,6 +64,7 @@ abbrev pub Ends : Call → Status → Type 0
 Ends call Done = IsCalled call Done × IfSome call.before.left (λ _. call.after.left ≡ Some [])
 Ends call Usage = (options call.words ≡ None) × IsRefused call Usage × (call.taken ≡ [])
 Ends call statuses.Frame = IsRefused call statuses.Frame × (call.taken ≡ [])
+Ends call statuses.Settings = IsRefused call statuses.Settings × (call.taken ≡ [])
 Ends call ScriptTooLong = IsCalled call ScriptTooLong × (max_script < length call.taken)
 Ends call ReadFault =
     (length call.taken ≤ max_script) × IsPrefix call
@@ -98,6 +99,7 @@ pub record Promises (call : Call) (status : Status) : Type 0 where
 abbrev pub status_of : Ending → Status
 status_of endings.Usage = Usage
 status_of endings.Frame = statuses.Frame
+status_of endings.Settings = statuses.Settings
 status_of endings.ReadFault = ReadFault
 status_of endings.WriteFault = WriteFault
 status_of endings.Memory = Memory
@@ -113,6 +115,7 @@ abbrev pub status_number : Status → ℕ
 status_number Done = 0
 status_number Usage = 1
 status_number statuses.Frame = 2
+status_number statuses.Settings = 3
 status_number ReadFault = 4
 status_number WriteFault = 5
 status_number Memory = 6

@@ -1,6 +1,6 @@
 -- The settings file of a run: its settings under an accepted frame, or its first refusal, and the line of that. All of it
 -- is this project's own.
-use Rattle.std.specs.Prelude.{ℕ, ◌==◌, ◌&&◌, ◌||◌, Bool, List, [], ◌∷◌, ◌++◌, Result, Ok, Err, codes, length, nat_le, nat_lt, if◌then◌else◌}
+use Rattle.std.specs.Prelude.{ℕ, ◌==◌, ◌&&◌, ◌||◌, Bool, List, ◌++◌, Result, Ok, Err, codes, length, nat_le, nat_lt, if◌then◌else◌}
 use Rattle.std.specs.Char.{is_ascii_alphanumeric}
 use Rattle.std.specs.List.{list_all}
 use Rattle.dng_tags.specs.declared.record.Frame.{Frame}

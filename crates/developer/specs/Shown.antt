@@ -15,10 +15,14 @@ named_view = option_map (λ n. record {
 })
 
 -- what they ask for
-abbrev pub options_view : Option Options → Option words.Options
-options_view = option_map (λ o. record {
+abbrev pub option_view : Options → words.Options
+option_view o = record {
   frame = o.frame.now;
   settings = option_map (λ s. s.now) o.settings;
   budget = o.budget;
   cell = o.cell;
-})
+}
+
+-- the same, where they are accepted
+abbrev pub options_view : Option Options → Option words.Options
+options_view = option_map option_view

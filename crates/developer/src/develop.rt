@@ -1,17 +1,13 @@
 //! The whole development of a frame.
 
-ghost use Rattle.std.specs.Prelude.{◌≡◌, ◌≢◌, ℕ, List, ◌+◌, ◌-◌, ◌*◌, ◌≤◌, ◌<◌, length, IfErr, IfOk, IfSome, None, OnOk, Some, take, drop};
+ghost use Rattle.std.specs.Prelude.{◌≡◌, ◌+◌, ◌-◌, ◌*◌, ◌≤◌, ◌<◌, length, IfOk, IfSome, take, drop};
 ghost use Rattle.stage_core.specs.Stages.{shape_of};
 ghost use Rattle.stage_chain.specs.Chains.{TakeInTurn, whole_of};
-ghost use Rattle.dng_tags.specs.Facts.{IsFrame};
-ghost use Rattle.dng_tags.specs.Raw.{undecoded};
 ghost use Rattle.dev_stages.specs.Members.{apply_of, shaped_of, takes_of};
-ghost use Rattle.developer.specs.Develop.{IsDeveloped, IsWithin, develop, standard_stages};
+ghost use Rattle.developer.specs.Develop.{IsDeveloped, IsWithin};
 ghost use Rattle.developer.specs.Replies.{part_of};
 
-use dev_settings::Settings;
-use dev_stages::{DevStage, PlanFault, plan};
-use dng_tags::{Frame, FrameFault};
+use dev_stages::DevStage;
 use frame_segments::Segments;
 use plane_view::{Rect, Shape};
 use stage_chain::{WholePlane, run_in_turn};
@@ -55,42 +51,24 @@ fn run_stages<B: Base, L: Ledger>(
     run_in_turn(stages, raw, Vec::new(alloc), &mut work)
 }
 
-/// The stages of an accepted frame where nothing is set.
-///
-/// # Errors
-///
-/// `AllocError` where there is no memory.
-fn standard_plan(alloc: Global, frame: &Frame) -> Result<Vec<DevStage>, AllocError>
-    requires { (bytes : List ℕ) × IsFrame frame.now bytes }
-    ensures stages { IfOk result (λ stages. stages.items ≡ standard_stages frame.now) }
-    ensures chain { IfOk result (λ stages. TakeInTurn takes_of shaped_of stages.items frame.now.shape) }
-{
-    match plan(alloc, frame, &Settings::standard()) {
-        Ok(stages) => Ok(stages),
-        Err(PlanFault::Memory) => Err(AllocError),
-        Err(PlanFault::Matrix | PlanFault::Levels) => unreachable!(),
-    }
-}
-
 impl Developed {
-    /// Develops a whole frame.
+    /// Develops the plane of segments by stages, which take it and leave three planes.
     ///
     /// # Errors
     ///
-    /// `Segment` exactly where a segment can't be decoded; `Memory` where there is no memory.
-    pub fn new(alloc: Global, bytes: &[u8], frame: &Frame) -> Result<Developed, FrameFault>
-        requires frame { IsFrame frame.now bytes.now }
-        ensures developed { IfOk result (λ plane. plane ≡ develop bytes.now frame.now) }
-        ensures decoded { OnOk result (undecoded bytes.now frame.now ≡ None) }
-        ensures refused { IfErr result (λ fault. fault ≢ FrameFault.Memory → undecoded bytes.now frame.now ≡ Some fault) }
+    /// `AllocError` where there is no memory.
+    pub fn new(
+        alloc: Global,
+        segments: &mut Segments<'_>,
+        stages: &[DevStage],
+    ) -> Result<Developed, AllocError>
+        requires takes { TakeInTurn takes_of shaped_of stages.now (shape_of segments.old.plane) }
+        requires colours { (whole_of apply_of stages.now segments.old.plane).planes ≡ 3 }
+        ensures { IfOk result (λ plane. plane ≡ whole_of apply_of stages.now segments.old.plane) }
     {
-        let mut segments = Segments::open(alloc, bytes, frame)?;
-        let Ok(stages) = standard_plan(alloc, frame) else {
-            return Err(FrameFault::Memory);
-        };
-        match run_stages::<Segments<'_>, Brand>(alloc, &mut segments, &stages, Blank::new(1)) {
+        match run_stages::<Segments<'_>, Brand>(alloc, segments, stages, Blank::new(1)) {
             Ok(plane) => Ok(Developed { plane }),
-            Err(_) => Err(FrameFault::Memory),
+            Err(error) => Err(error),
         }
     }
 

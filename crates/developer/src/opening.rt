@@ -1,31 +1,40 @@
 //! Opening a frame: the words, the frame's file, its record and its developed plane.
 
-ghost use Rattle.std.specs.Prelude.{◌≡◌, ℕ, ◌≤◌, List, [], Option, Some, map, string_bytes, IfErr, IfOk, IfSome, OnOk, Ok};
+ghost use Rattle.std.specs.Prelude.{◌≡◌, ℕ, ◌≤◌, List, [], Option, Some, map, option_map, string_bytes, IfErr, IfOk, IfSome, OnOk, Ok};
 ghost use Rattle.raw_io.specs.Outside.{Appends};
 ghost use Rattle.developer.specs.Develop.{develop};
 ghost use Rattle.developer.specs.Opening.{opened};
-ghost use Rattle.developer.specs.Opens.{OpensFile, Refuses};
+ghost use Rattle.dng_tags.specs.Facts.{IsFrame};
+ghost use Rattle.developer.specs.Opens.{Opens, OpensFiles, Refuses};
+ghost use Rattle.developer.specs.Planning.{seen};
+ghost use Rattle.developer.specs.SettingsFile.{settings_line};
+ghost use Rattle.developer.specs.Shown.{option_view};
 ghost use Rattle.developer.specs.Refusals.{refusal_line};
 ghost use Rattle.developer.specs.Run.{Ends, status_of};
-ghost use Rattle.developer.specs.Words.{Options, options};
+ghost use Rattle.developer.specs.Words.{Options as Chosen, options};
 
 use crate::develop::Developed;
+use crate::settings::{SettingsRefusal, SettingsStop, plan_under};
 use crate::status::Ending;
-use crate::words::read_words;
+use crate::words::{Options, read_words};
 use crate::writing::write_bytes;
+use dev_settings::Settings;
 use dng_tags::{Frame, FrameFault, MAX_BYTES, read_frame};
+use frame_segments::Segments;
 use raw_io::{Files, ReadFault, Sink, read_all};
-use std::alloc::Global;
+use std::alloc::{AllocError, Global};
 use std::marker::Model;
 use text_line::Line;
 
 const USAGE_LINE: &[u8] = b"usage: rawdev FRAME [--settings FILE] [--budget SAMPLES] [--cell N]\n";
 
-/// An accepted frame: the bytes of its file, its record, and its developed plane. Contracts see the bytes and the record.
+/// An accepted frame: the bytes of its file, its record, settings, and the plane developed under them. Contracts see the
+/// bytes, the record and the settings.
 #[derive(Drop)]
 pub(crate) struct OpenedFrame {
     bytes: Vec<u8>,
     frame: Frame,
+    settings: Settings,
     plane: Developed,
 }
 
@@ -36,17 +45,19 @@ impl Model for OpenedFrame {
 
     ghost Value = { Opened };
 
-    ghost view = { λ o. record { bytes = o.bytes.items; frame = o.frame } };
+    ghost view = { λ o. record { bytes = o.bytes.items; frame = o.frame; settings = o.settings } };
 
-    ghost invariant = { λ o. o.plane ≡ develop o.bytes.items o.frame };
+    ghost invariant = { λ o. o.plane ≡ develop o.bytes.items o.frame o.settings };
 }
 
 /// Why a frame isn't opened.
-#[derive(Clone, Copy, Debug, PartialEq, Eq)]
+#[derive(Debug, Drop)]
 pub(crate) enum OpenFault {
     /// The frame is refused.
-    Refused(FrameFault),
-    /// A read of its file failed.
+    Frame(FrameFault),
+    /// The settings file is refused.
+    Settings(SettingsRefusal),
+    /// A read of one of the files failed.
     Unread,
     /// Memory ran out.
     Memory,
@@ -59,7 +70,7 @@ impl From<ReadFault> for OpenFault {
 
     fn from(fault: ReadFault) -> Self {
         match fault {
-            ReadFault::TooLong => OpenFault::Refused(FrameFault::TooLong),
+            ReadFault::TooLong => OpenFault::Frame(FrameFault::TooLong),
             ReadFault::Failed => OpenFault::Unread,
             ReadFault::Memory => OpenFault::Memory,
         }
@@ -74,31 +85,80 @@ impl From<FrameFault> for OpenFault {
     fn from(fault: FrameFault) -> Self {
         match fault {
             FrameFault::Memory => OpenFault::Memory,
-            fault => OpenFault::Refused(fault),
+            fault => OpenFault::Frame(fault),
         }
     }
 }
 
+impl From<SettingsStop> for OpenFault {
+    ghost use Rattle.developer.specs.Opens.{stopped};
+
+    ghost from_gives = { λ stop e. e ≡ stopped stop };
+
+    fn from(stop: SettingsStop) -> Self {
+        match stop {
+            SettingsStop::Refused(refusal) => OpenFault::Settings(refusal),
+            SettingsStop::Unread => OpenFault::Unread,
+            SettingsStop::Memory => OpenFault::Memory,
+        }
+    }
+}
+
+impl From<AllocError> for OpenFault {
+    ghost use Rattle.developer.specs.declared.opening.OpenFault.TheVariants.{Memory};
+
+    ghost from_gives = { λ _ e. e ≡ Memory };
+
+    fn from(_: AllocError) -> Self {
+        OpenFault::Memory
+    }
+}
+
+/// The settings that a run has by the name of a settings file, or the standard ones without one, and the plane of a frame
+/// that is developed under them. Each segment is decoded before the settings file is read.
+fn develop_under<F: Files>(
+    alloc: Global,
+    files: &mut F,
+    bytes: &[u8],
+    frame: &Frame,
+    settings: Option<&str>,
+) -> Result<(Settings, Developed), OpenFault>
+    requires frame { IsFrame frame.now bytes.now }
+    ensures told { (other : List ℕ) → F.told files.new other ≡ F.told files.old other }
+    ensures counts { (other : List ℕ) → F.faults files.old other ≤ F.faults files.new other }
+    ensures opens { Opens (F.told files.old) (F.faults files.old) (F.faults files.new) (record { bytes = bytes.now; frame = frame.now }) (option_map (λ name. name.now) settings.entry) result }
+{
+    let mut segments = Segments::open(alloc, bytes, frame)?;
+    let planned = plan_under(alloc, files, settings, frame)?;
+    let plane = Developed::new(alloc, &mut segments, &planned.stages)?;
+    Ok((planned.settings, plane))
+}
+
 impl OpenedFrame {
-    /// Reads and develops the frame in a file.
-    fn read<F: Files>(alloc: Global, files: &mut F, name: &str) -> Result<OpenedFrame, OpenFault>
+    /// Reads and develops the frame that the words ask for, under the settings that they ask for.
+    fn read<F: Files>(
+        alloc: Global,
+        files: &mut F,
+        options: &Options<'_>,
+    ) -> Result<OpenedFrame, OpenFault>
         ensures told { (other : List ℕ) → F.told files.new other ≡ F.told files.old other }
         ensures counts { (other : List ℕ) → F.faults files.old other ≤ F.faults files.new other }
-        ensures opens { OpensFile (F.told files.old name.now) (F.faults files.old name.now) (F.faults files.new name.now) result }
+        ensures opens { OpensFiles (F.told files.old) (F.faults files.old) (F.faults files.new) (option_view options.now) result }
     {
-        let bytes = read_all(alloc, files, name, MAX_BYTES)?;
+        let bytes = read_all(alloc, files, options.frame, MAX_BYTES)?;
         let frame = read_frame(alloc, &bytes)?;
-        let plane = Developed::new(alloc, &bytes, &frame)?;
+        let (settings, plane) = develop_under(alloc, files, &bytes, &frame, options.settings)?;
         Ok(OpenedFrame {
             bytes,
             frame,
+            settings,
             plane,
         })
     }
 
     /// The developed plane.
     pub(crate) fn plane(&self) -> &Developed
-        ensures { result.now ≡ develop self.now.bytes self.now.frame }
+        ensures { result.now ≡ develop self.now.bytes self.now.frame self.now.settings }
     {
         &self.plane
     }
@@ -124,7 +184,7 @@ pub(crate) fn open<F: Files, O: Sink>(
     ensures told { (name : List ℕ) → F.told files.new name ≡ F.told files.old name }
     ensures files { (name : List ℕ) → F.faults files.old name ≤ F.faults files.new name }
     ensures sink { O.faults out.old ≤ O.faults out.new }
-    ensures words { OnOk result ((chosen : Options) × (options (map string_bytes words.now) ≡ Some chosen)) }
+    ensures words { OnOk result ((chosen : Chosen) × (options (map string_bytes words.now) ≡ Some chosen)) }
     ensures opened { IfOk result (λ frame. IfSome (opened (map string_bytes words.now) (F.told files.old)) (λ o. o ≡ Ok frame)) }
     ensures untouched { OnOk result (out.new ≡ out.old) }
     ensures ended { IfErr result (λ ending. (left : Option (List ℕ)) (script_faults : ℕ) → (written : List ℕ)
@@ -154,9 +214,10 @@ pub(crate) fn open<F: Files, O: Sink>(
         Ok(None) => return Err(refuse(USAGE_LINE, Ending::Usage, out)),
         Err(_) => return Err(Ending::Memory),
     };
-    match OpenedFrame::read(alloc, files, options.frame) {
+    match OpenedFrame::read(alloc, files, &options) {
         Ok(frame) => Ok(frame),
-        Err(OpenFault::Refused(fault)) => Err(refuse_frame(fault, out)),
+        Err(OpenFault::Frame(fault)) => Err(refuse_frame(fault, out)),
+        Err(OpenFault::Settings(refusal)) => Err(refuse_settings(&refusal, out)),
         Err(OpenFault::Unread) => Err(Ending::ReadFault),
         Err(OpenFault::Memory) => Err(Ending::Memory),
     }
@@ -172,4 +233,13 @@ fn refuse_frame<O: Sink>(fault: FrameFault, out: &mut O) -> Ending
     fault.say(&mut line);
     line.end();
     refuse(line.as_bytes(), Ending::Frame, out)
+}
+
+/// Writes the line of a settings file's refusal, and gives how the run ends then.
+fn refuse_settings<O: Sink>(refusal: &SettingsRefusal, out: &mut O) -> Ending
+    ensures { Refuses O.stands_for O.faults out.old out.new (settings_line (seen refusal.now)) Ending.Settings result }
+{
+    let mut line = Line::new();
+    refusal.say(&mut line);
+    refuse(line.as_bytes(), Ending::Settings, out)
 }

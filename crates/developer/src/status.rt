@@ -15,7 +15,9 @@ pub enum Status {
     Usage,
     /// The frame was refused.
     Frame,
-    /// A read of the frame or of the script failed.
+    /// The settings file was refused.
+    Settings,
+    /// A read of the frame, of the settings file or of the script failed.
     ReadFault,
     /// A write failed.
     WriteFault,
@@ -34,6 +36,7 @@ impl Status {
             Status::Done => 0,
             Status::Usage => 1,
             Status::Frame => 2,
+            Status::Settings => 3,
             Status::ReadFault => 4,
             Status::WriteFault => 5,
             Status::Memory => 6,
@@ -49,6 +52,8 @@ pub(crate) enum Ending {
     Usage,
     /// The frame was refused, and its line was written.
     Frame,
+    /// The settings file was refused, and its line was written.
+    Settings,
     /// A read failed.
     ReadFault,
     /// A write failed.
@@ -67,6 +72,7 @@ impl Ending {
         match self {
             Ending::Usage => Status::Usage,
             Ending::Frame => Status::Frame,
+            Ending::Settings => Status::Settings,
             Ending::ReadFault => Status::ReadFault,
             Ending::WriteFault => Status::WriteFault,
             Ending::Memory => Status::Memory,

@@ -12,6 +12,7 @@ use tiff_dirs::Order;
 use tiff_write::{Field, Place};
 
 mod opcodes;
+mod settings;
 
 const ROOM: usize = 1 << 16;
 
@@ -200,6 +201,7 @@ fn statuses_have_their_numbers(rt: HostRuntime) {
         (Status::Done, 0),
         (Status::Usage, 1),
         (Status::Frame, 2),
+        (Status::Settings, 3),
         (Status::ReadFault, 4),
         (Status::WriteFault, 5),
         (Status::Memory, 6),

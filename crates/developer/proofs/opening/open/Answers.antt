@@ -5,6 +5,28 @@ use Rattle.developer.proofs.Endings.{nothing_prefix}
 use Rattle.developer.proofs.Outsides.{appends_nothing}
 use Rattle.developer.proofs.opening.open.Goals as goal
 
+pub returns-in-Err-clause-ended : goal.returns-in-Err-clause-ended
+returns-in-Err-clause-ended g c left script_faults =
+    let called : Call = record {
+      words = map string_bytes c.args.words.now;
+      before = record { told = g.F.Files.told c.args.files.now; file_faults = g.F.Files.faults c.args.files.now; left = left; script_faults = script_faults; sink_faults = g.O.Sink.faults c.args.out.now };
+      after = record { told = g.F.Files.told c.args.files.now; file_faults = g.F.Files.faults c.args.files.now; left = left; script_faults = script_faults; sink_faults = g.O.Sink.faults c.args.out.now };
+      written = [];
+      taken = [];
+    } in
+    ([], appends_nothing g.O.Sink.stands_for c.args.out.now, nothing_prefix called refl)
+
+pub returns-in-Err-Memory-clause-ended : goal.returns-in-Err-Memory-clause-ended
+returns-in-Err-Memory-clause-ended g c left script_faults =
+    let called : Call = record {
+      words = map string_bytes c.args.words.now;
+      before = record { told = g.F.Files.told c.args.files.now; file_faults = g.F.Files.faults c.args.files.now; left = left; script_faults = script_faults; sink_faults = g.O.Sink.faults c.args.out.now };
+      after = record { told = g.F.Files.told c.read.new.files; file_faults = g.F.Files.faults c.read.new.files; left = left; script_faults = script_faults; sink_faults = g.O.Sink.faults c.args.out.now };
+      written = [];
+      taken = [];
+    } in
+    ([], appends_nothing g.O.Sink.stands_for c.args.out.now, nothing_prefix called refl)
+
 pub returns-in-Err-Unread-clause-ended : goal.returns-in-Err-Unread-clause-ended
 returns-in-Err-Unread-clause-ended g c left script_faults =
     let called : Call = record {
