@@ -493,6 +493,18 @@ fn areas_are_those_of_the_frame(rt: HostRuntime) -> Result<(), Fail> {
 }
 
 #[test]
+fn words_are_accepted(rt: HostRuntime) -> Result<(), Fail> {
+    let alloc = rt.alloc();
+    let file = flat_file(alloc)?;
+    for words in accepted_words() {
+        let mut outside = Outside::new(alloc, &file, b"")?;
+        assert_eq!(rt; outside.run(alloc, words)?, Status::Done);
+        assert!(rt; outside.out.bytes().is_empty());
+    }
+    Ok(())
+}
+
+#[test]
 fn words_are_refused(rt: HostRuntime) -> Result<(), Fail> {
     let alloc = rt.alloc();
     for words in refused_words() {

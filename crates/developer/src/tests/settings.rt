@@ -80,7 +80,7 @@ fn a_frame_is_refused_before_its_settings(rt: HostRuntime) -> Result<(), Fail> {
     let mut outside = Outside::new(alloc, b"", b"")?;
     outside.files.add("s.toml", b"x =")?;
     let status = outside.run(alloc, &["f.dng", "--settings", "s.toml"])?;
-    assert!(rt; status == Status::Frame && outside.out.bytes() == b"refused NotTiff\n");
+    assert!(rt; status == Status::Frame && outside.out.bytes() == b"refused NotTiff\n".as_slice());
     let mut outside = Outside::new(alloc, &flat_file(alloc)?, b"")?;
     let status = outside.run(alloc, &["f.dng", "--settings", "nothing"])?;
     assert!(rt; status == Status::ReadFault && outside.out.bytes().is_empty());
