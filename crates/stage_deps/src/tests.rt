@@ -113,3 +113,24 @@ fn belows(rt: HostRuntime) -> Result<(), Fail> {
     assert!(rt; last.as_slice() == [7, 8].as_slice());
     Ok(())
 }
+
+/// The stamps of four planes after changes of planes 2, 1 and 3.
+fn stamps_after(alloc: Global) -> Result<[u64; 5], AllocError> {
+    let mut stamps = Stamps::new(alloc, 3)?;
+    stamps.change(2);
+    stamps.change(1);
+    stamps.change(3);
+    Ok([
+        stamps.now(0),
+        stamps.now(1),
+        stamps.now(2),
+        stamps.now(3),
+        stamps.changes(),
+    ])
+}
+
+#[test]
+fn stamps(rt: HostRuntime) -> Result<(), Fail> {
+    assert_eq!(rt; stamps_after(rt.alloc())?, [0, 2, 2, 3, 3]);
+    Ok(())
+}
