@@ -1,4 +1,5 @@
-pub mod Stacks
+pub mod Examples
 pub mod Layers
 pub mod Parts
 pub mod Sessions
+pub mod Stacks

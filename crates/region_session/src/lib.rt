@@ -12,3 +12,6 @@ mod tally;
 pub use faults::{OpenFault, ShapeChanged};
 pub use session::Session;
 pub use tally::Tally;
+
+#[cfg(test)]
+mod tests;
