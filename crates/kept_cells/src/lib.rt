@@ -11,10 +11,12 @@ ghost use Rattle.kept_cells.specs.Held.{SameHeld, Takes};
 ghost use Rattle.kept_cells.specs.Kept.{brought, key_at, put_key};
 ghost use Rattle.kept_cells.specs.Tiling.{held_in, kept_in};
 
+mod cache;
 mod parts;
 mod tiles;
 
 use crate::parts::samples_of;
+pub use cache::Cache;
 use plane_view::{Rect, TileMut, View};
 use std::alloc::{AllocError, Global};
 use tile_cache::Key;
@@ -32,64 +34,6 @@ impl Tiles {
             cell,
             stamp: self.stamps.now(plane),
         }
-    }
-
-    /// Writes the samples of a cell that are in a tile, if the cell is held at the present stamp.
-    pub fn find(&mut self, plane: u32, cell: u32, rect: Rect, out: &mut TileMut<'_>) -> bool
-        requires plane { plane < length self.old.stamps.stamps }
-        requires size { (held_in self.old.cells self.old.stamps.stamps).holds plane cell ≡ true
-            → length ((held_in self.old.cells self.old.stamps.stamps).samples plane cell) ≡ area_of rect * (loan out.old).planes }
-        ensures found { result ≡ (held_in self.old.cells self.old.stamps.stamps).holds plane cell }
-        ensures loan { SameLoan out.old out.new }
-        ensures copies { result ≡ true → CopiesFrom (loan out.old) (loan out.new)
-            (record { rect = rect; planes = (loan out.old).planes; samples = (held_in self.old.cells self.old.stamps.stamps).samples plane cell }) (tile_rect out.old) }
-        ensures stays { result ≡ false → out.new ≡ out.old }
-        ensures held { SameHeld (held_in self.old.cells self.old.stamps.stamps) (held_in self.new.cells self.new.stamps.stamps) }
-        ensures brings { result ≡ true → kept_in self.new.cells self.new.stamps.stamps ≡ brought (kept_in self.old.cells self.old.stamps.stamps) plane cell }
-        ensures leaves { result ≡ false → kept_in self.new.cells self.new.stamps.stamps ≡ kept_in self.old.cells self.old.stamps.stamps }
-        ensures stamps { self.new.stamps ≡ self.old.stamps }
-    {
-        let key = self.key(plane, cell);
-        match self.cells.get(&key) {
-            Some(samples) => {
-                let planes = out.planes();
-                out.copy_from(&View::new(rect, planes, samples));
-                true
-            }
-            None => false,
-        }
-    }
-
-    /// Takes in a cell of a part of a plane, which isn't held at the present stamp. Others may be dropped. One of more
-    /// samples than the budget isn't taken in, and takes no memory.
-    ///
-    /// # Errors
-    ///
-    /// Where there is no memory.
-    pub fn put(
-        &mut self,
-        alloc: Global,
-        plane: u32,
-        cell: u32,
-        rect: Rect,
-        part: &View<'_>,
-    ) -> Result<(), AllocError>
-        requires plane { plane < length self.old.stamps.stamps }
-        requires absent { (held_in self.old.cells self.old.stamps.stamps).holds plane cell ≡ false }
-        requires inside { LiesIn rect part.now.rect }
-        requires small { area_of rect * part.now.planes < 2 ^ 32 }
-        ensures takes { Takes (held_in self.old.cells self.old.stamps.stamps) (held_in self.new.cells self.new.stamps.stamps) plane cell (part_of part.now rect).samples }
-        ensures kept { OnOk result (kept_in self.new.cells self.new.stamps.stamps ≡ put_key (kept_in self.old.cells self.old.stamps.stamps) plane cell (area_of rect * part.now.planes)) }
-        ensures stamps { self.new.stamps ≡ self.old.stamps }
-        ensures budget { self.new.budget ≡ self.old.budget }
-    {
-        let size = rect.area() * u64::from(part.planes());
-        if self.budget < size {
-            return Ok(());
-        }
-        let samples = samples_of(alloc, rect, part)?;
-        let key = self.key(plane, cell);
-        self.cells.put(key, samples)
     }
 
     /// One change more, of a plane: no cell of it or of a plane above it is held at the present stamps. All cells stay.
@@ -113,5 +57,47 @@ impl Tiles {
         ensures within { result ≤ (kept_in self.now.cells self.now.stamps.stamps).budget }
     {
         self.cells.total()
+    }
+}
+
+impl Cache for Tiles {
+    ghost use Rattle.kept_cells.specs.Laws.{holds_kept};
+    ghost use Rattle.kept_cells.specs.Tiling.{held_in, kept_in};
+
+    ghost held = { λ t. held_in t.cells t.stamps.stamps };
+
+    ghost kept = { λ t. kept_in t.cells t.stamps.stamps };
+
+    ghost marks = { λ t. t.stamps };
+
+    ghost holds = { λ t. holds_kept t.cells t.stamps.stamps };
+
+    fn find(&mut self, plane: u32, cell: u32, rect: Rect, out: &mut TileMut<'_>) -> bool {
+        let key = self.key(plane, cell);
+        match self.cells.get(&key) {
+            Some(samples) => {
+                let planes = out.planes();
+                out.copy_from(&View::new(rect, planes, samples));
+                true
+            }
+            None => false,
+        }
+    }
+
+    fn put(
+        &mut self,
+        alloc: Global,
+        plane: u32,
+        cell: u32,
+        rect: Rect,
+        part: &View<'_>,
+    ) -> Result<(), AllocError> {
+        let size = rect.area() * u64::from(part.planes());
+        if self.budget < size {
+            return Ok(());
+        }
+        let samples = samples_of(alloc, rect, part)?;
+        let key = self.key(plane, cell);
+        self.cells.put(key, samples)
     }
 }

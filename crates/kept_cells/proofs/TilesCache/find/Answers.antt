@@ -6,7 +6,7 @@ use Rattle.tile_cache.specs.declared.Key.{Key}
 use Rattle.kept_cells.specs.Kept.{key_at}
 use Rattle.kept_cells.specs.Tiling.{kept_in}
 use Rattle.kept_cells.proofs.Tiled.{found_held, found_kept, unfound_kept, found_keys}
-use Rattle.kept_cells.proofs.tiles.Tiles.find.Goals as goal
+use Rattle.kept_cells.proofs.TilesCache.find.Goals as goal
 
 pub invariant_of-self : goal.invariant_of-self
 invariant_of-self c =

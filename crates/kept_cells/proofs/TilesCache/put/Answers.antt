@@ -6,7 +6,7 @@ use Rattle.tile_cache.specs.declared.Key.{Key}
 use Rattle.kept_cells.specs.Held.{Takes}
 use Rattle.kept_cells.specs.Tiling.{held_in}
 use Rattle.kept_cells.proofs.Tiled.{refused_keys, refused_takes, stored_keys, stored_takes}
-use Rattle.kept_cells.proofs.tiles.Tiles.put.Goals as goal
+use Rattle.kept_cells.proofs.TilesCache.put.Goals as goal
 
 either : {T E : Type 0} (r : Result T E) (A B P : Type 0) → (A → P) → (B → P) → OnOk r A → OnErr r B → P
 either (Ok x) A B P f h a b = f a
