@@ -1,8 +1,11 @@
 #!/usr/bin/env bash
-# Proves and builds rawdev, develops samples/bars.dng with it, and leaves the picture as samples/bars.ppm.
+# Proves and builds rawdev, develops samples/scene.dng with it under the settings of samples/screen.toml, and leaves the
+# picture as samples/scene.ppm.
 set -euo pipefail
 cd "$(dirname "$0")/../crates/rawdev"
 
 # The reply is one line, `image N`, and then the picture.
-echo 'region 0 0 96 64 ppm' | rt run -- ../../samples/bars.dng | tail -n +2 >../../samples/bars.ppm
-echo "The picture is samples/bars.ppm: 96 by 64 pixels, 16 bits a sample."
+echo 'region 0 0 240 160 ppm' |
+    rt run -- ../../samples/scene.dng --settings ../../samples/screen.toml |
+    tail -n +2 >../../samples/scene.ppm
+echo "The picture is samples/scene.ppm: 240 by 160 pixels, 16 bits a sample."
