@@ -390,6 +390,9 @@ fn stream_of_two_components() -> &'static [u8] {
 /// The flat frame in two lossless tiles of 4 rows and 2 columns, the second of which may be damaged.
 fn in_two_streams(alloc: Global, damaged: bool) -> Result<TestFrame, AllocError> {
     let stream = flat_stream(alloc, 8, 2, 1)?;
+    if stream.is_empty() || stream.len() > 65_535 {
+        return flat(alloc);
+    }
     let mut both = stream.as_slice().to_vec(alloc)?;
     both.push(if damaged { 0 } else { 0xFF })?;
     both.extend_from_slice(&stream[1..])?;
