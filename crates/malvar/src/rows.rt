@@ -170,8 +170,44 @@ fn fill_pairs(window: &Window, row: Row, from: usize, pairs: usize, out: &mut [u
     }
 }
 
-/// The same, by one loop for each kind of row.
+/// The same, by a loop of its own for each kind of demosaicing.
 #[inline(always)]
+fn fill_kinds(window: &Window, row: Row, from: usize, pairs: usize, out: &mut [u16])
+    requires window { IsWindow window.now }
+    requires spans { Spans (reach_of row.kind) window.now from (from + pairs * 2) }
+    requires even { from % 2 ≡ 0 }
+    requires low { reach_of row.kind ≤ from }
+    requires high { from + pairs * 2 + reach_of row.kind ≤ window.now.cols }
+    requires first { row.first ≤ from }
+    requires out { (from + pairs * 2 - row.first) * 3 ≤ length out.old }
+    ensures pixels { HasColumns row.kind row.even row.odd window.now row.first out.new from (from + pairs * 2) }
+    ensures before { SameBelow out.old out.new (from - row.first) }
+{
+    match row.kind {
+        Kind::Malvar => fill_pairs(
+            window,
+            Row {
+                kind: Kind::Malvar,
+                ..row
+            },
+            from,
+            pairs,
+            out,
+        ),
+        Kind::Bilinear => fill_pairs(
+            window,
+            Row {
+                kind: Kind::Bilinear,
+                ..row
+            },
+            from,
+            pairs,
+            out,
+        ),
+    }
+}
+
+/// The same, by one loop for each kind of row.
 fn fill_sites(
     window: &Window,
     sites: RowSites,
@@ -199,7 +235,7 @@ fn fill_sites(
                 odd: Site::GreenByRed,
                 first,
             };
-            fill_pairs(window, row, from, pairs, out);
+            fill_kinds(window, row, from, pairs, out);
         }
         RowSites::GreenRed => {
             let row = Row {
@@ -208,7 +244,7 @@ fn fill_sites(
                 odd: Site::Red,
                 first,
             };
-            fill_pairs(window, row, from, pairs, out);
+            fill_kinds(window, row, from, pairs, out);
         }
         RowSites::GreenBlue => {
             let row = Row {
@@ -217,7 +253,7 @@ fn fill_sites(
                 odd: Site::Blue,
                 first,
             };
-            fill_pairs(window, row, from, pairs, out);
+            fill_kinds(window, row, from, pairs, out);
         }
         RowSites::BlueGreen => {
             let row = Row {
@@ -226,34 +262,8 @@ fn fill_sites(
                 odd: Site::GreenByBlue,
                 first,
             };
-            fill_pairs(window, row, from, pairs, out);
+            fill_kinds(window, row, from, pairs, out);
         }
-    }
-}
-
-/// The same, by loops of their own for each kind of demosaicing.
-fn fill_inside(
-    window: &Window,
-    sites: RowSites,
-    kind: Kind,
-    first: usize,
-    from: usize,
-    pairs: usize,
-    out: &mut [u16],
-)
-    requires window { IsWindow window.now }
-    requires spans { Spans (reach_of kind) window.now from (from + pairs * 2) }
-    requires even { from % 2 ≡ 0 }
-    requires low { reach_of kind ≤ from }
-    requires high { from + pairs * 2 + reach_of kind ≤ window.now.cols }
-    requires first { first ≤ from }
-    requires out { (from + pairs * 2 - first) * 3 ≤ length out.old }
-    ensures pixels { HasColumns kind (even_site sites) (odd_site sites) window.now first out.new from (from + pairs * 2) }
-    ensures before { SameBelow out.old out.new (from - first) }
-{
-    match kind {
-        Kind::Malvar => fill_sites(window, sites, Kind::Malvar, first, from, pairs, out),
-        Kind::Bilinear => fill_sites(window, sites, Kind::Bilinear, first, from, pairs, out),
     }
 }
 
@@ -280,6 +290,6 @@ pub(crate) fn fill(
     }
     let pairs = (upto - from) / 2;
     fill_reflecting(window, sites, kind, first, first, from, out);
-    fill_inside(window, sites, kind, first, from, pairs, out);
+    fill_sites(window, sites, kind, first, from, pairs, out);
     fill_reflecting(window, sites, kind, first, from + pairs * 2, to, out);
 }
