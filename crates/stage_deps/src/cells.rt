@@ -69,7 +69,7 @@ pub fn rects_of(cells: &[Rect], numbers: &[u32], rects: &mut Vec<Rect>) -> Resul
     Ok(())
 }
 
-/// The least rectangle that contains all of these; of none a rectangle with no pixel.
+/// A rectangle that contains all of these, and that lies in each plane of which they are parts.
 pub fn hull(rects: &[Rect]) -> Rect
     ensures all { All (λ rect. LiesIn rect result) rects.now }
     ensures part { (s : Shape) → All (λ rect. IsPart rect s) rects.now → LiesIn result (whole_rect s.rows s.cols) }
