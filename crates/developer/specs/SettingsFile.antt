@@ -21,11 +21,12 @@ pub data Refused : Type 0 where
   no_matrix : Refused
   no_levels : Refused
 
--- settings under which the frame has stages
+-- settings under which the frame has stages. No definition answers want of memory
 abbrev pub if_planned : Settings → Result (List DevStage) PlanFault → Result Settings Refused
 if_planned settings (Ok stages) = Ok settings
 if_planned settings (Err fault.Matrix) = Err no_matrix
-if_planned settings (Err _) = Err no_levels
+if_planned settings (Err fault.Levels) = Err no_levels
+if_planned settings (Err fault.Memory) = Err no_levels
 
 -- the settings of a file under a frame, or the first refusal
 abbrev pub under_frame : Frame → Result Settings Refusal → Result Settings Refused

@@ -22,6 +22,9 @@ use std::alloc::{AllocError, Global};
 use tile_cache::Key;
 pub use tiles::Tiles;
 
+#[cfg(test)]
+mod tests;
+
 impl Tiles {
     /// The key of a cell at the present stamp of its plane.
     fn key(&self, plane: u32, cell: u32) -> Key

@@ -209,6 +209,7 @@ fn open<'a>(
     requires least { 16 ≤ cell }
     requires most { cell ≤ 512 }
     requires multiple { cell % 16 ≡ 0 }
+    ensures stages { IfOk result (λ session. length session.stages ≡ 7) }
 {
     let [source, lower, upper] = done;
     let base = Whole {
@@ -283,4 +284,34 @@ fn fault(alloc: Global, most: u32) -> Option<OpenFault> {
 fn refuses_shapes(rt: HostRuntime) {
     assert!(rt; fault(rt.alloc(), 39) == Some(OpenFault::Shape { stage: 5 }));
     assert!(rt; fault(rt.alloc(), 40).is_none());
+}
+
+/// The answer to a new stage in the place of stage `k`, which looks one pixel round itself and takes so many rows, and how
+/// far the stage that is there then looks.
+fn replaced(alloc: Global, k: u32, most: u32) -> Option<(Result<(), ShapeChanged>, u32)>
+    requires least { 1 ≤ k }
+    requires last { k ≤ 7 }
+{
+    let done = [Done::new(), Done::new(), Done::new()];
+    let mut session = open(alloc, 16, 40, &done).ok()?;
+    let [_, _, upper] = &done;
+    let stage = Near {
+        by: 1,
+        most,
+        done: upper,
+    };
+    let answer = session.replace(k, stage);
+    Some((answer, session.stage(k).by))
+}
+
+#[test]
+fn replaces_stages(rt: HostRuntime) {
+    assert!(rt; replaced(rt.alloc(), 7, 40) == Some((Ok(()), 1)));
+    let had = Shape {
+        rows: 40,
+        cols: 48,
+        planes: 1,
+    };
+    let refused = ShapeChanged { had, got: None };
+    assert!(rt; replaced(rt.alloc(), 3, 39) == Some((Err(refused), 2)));
 }

@@ -2,10 +2,11 @@
 
 ghost use Rattle.std.specs.Prelude.{◌≡◌, ◌<◌, ◌≤◌, ◌^◌, length, OnOk};
 ghost use Rattle.std.specs.List.{All};
+ghost use Rattle.plane_view.specs.declared.Rect.{Rect};
 ghost use Rattle.plane_view.specs.declared.Shape.{Shape};
 ghost use Rattle.plane_view.specs.Rectangles.{LiesIn, whole_rect};
 ghost use Rattle.stage_core.specs.Planes.{IsPart};
-ghost use Rattle.stage_deps.specs.Cells.{cells_at, meeting, meets, meets_one};
+ghost use Rattle.stage_deps.specs.Cells.{cells_at, meeting, meets, meets_one, no_rect};
 
 use plane_view::Rect;
 use std::alloc::AllocError;
@@ -69,9 +70,11 @@ pub fn rects_of(cells: &[Rect], numbers: &[u32], rects: &mut Vec<Rect>) -> Resul
     Ok(())
 }
 
-/// A rectangle that contains all of these, and that lies in each plane of which they are parts.
+/// The least rectangle that contains all of these, edge by edge; of none a rectangle with no pixel.
 pub fn hull(rects: &[Rect]) -> Rect
     ensures all { All (λ rect. LiesIn rect result) rects.now }
+    ensures least { (outer : Rect) → 1 ≤ length rects.now → All (λ rect. LiesIn rect outer) rects.now → LiesIn result outer }
+    ensures none { length rects.now ≡ 0 → result ≡ no_rect }
     ensures part { (s : Shape) → All (λ rect. IsPart rect s) rects.now → LiesIn result (whole_rect s.rows s.cols) }
 {
     let Some(first) = rects.first() else {

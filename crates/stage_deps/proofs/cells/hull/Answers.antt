@@ -27,6 +27,10 @@ part_more hull now grown s is part lies =
     let inside = part.inside in
     subst (λ (g : Rect). LiesIn g (whole_rect s.rows s.cols)) (sym is) (record { top = omega arith; bottom = omega arith; left = omega arith; right = omega arith })
 
+least_more : (hull now grown outer : Rect) → grown ≡ joined hull now → LiesIn now outer → LiesIn hull outer → LiesIn grown outer
+least_more hull now grown outer is here so_far =
+    subst (λ (g : Rect). LiesIn g outer) (sym is) (record { top = omega (arith, here.top, so_far.top); bottom = omega (arith, here.bottom, so_far.bottom); left = omega (arith, here.left, so_far.left); right = omega (arith, here.right, so_far.right) })
+
 pub loop-rect-preserved : goal.loop-rect-preserved
 loop-rect-preserved c =
     let rects : List Rect = c.args.rects.now in
@@ -34,9 +38,13 @@ loop-rect-preserved c =
     let within : i < length rects = omega arith in
     record {
       all = all_more rects i c.loop-rect.hull _ within (search rules) c.loop-rect.invariant.all;
+      least = λ outer inside. least_more c.loop-rect.hull (get_or rects i no_rect) _ outer (search rules) (inside i no_rect within) (c.loop-rect.invariant.least outer inside);
       part = λ s parts. part_more c.loop-rect.hull (get_or rects i no_rect) _ s (search rules) (parts i no_rect within) (c.loop-rect.invariant.part s parts);
     }
 
 pub returns-clause-all : goal.returns-clause-all
 returns-clause-all c =
     subst (λ (xs : List Rect). All (λ (r : Rect). LiesIn r c.loop-rect.hull) xs) (take_all c.loop-rect.rect-index c.args.rects.now (omega arith)) c.loop-rect.invariant.all
+
+pub returns-clause-least : goal.returns-clause-least
+returns-clause-least c = λ outer some inside. c.loop-rect.invariant.least outer inside

@@ -10,5 +10,6 @@ use Rattle.stage_deps.proofs.cells.hull.Given as goal
 abbrev pub invariant-loop-rect : goal.invariant-loop-rect
 invariant-loop-rect l = record {
   all : All (λ (r : Rect). LiesIn r l.hull) (take l.rect-index l.rects);
+  least : (outer : Rect) → All (λ (r : Rect). LiesIn r outer) l.rects → LiesIn l.hull outer;
   part : (s : Shape) → All (λ (r : Rect). IsPart r s) l.rects → LiesIn l.hull (whole_rect s.rows s.cols);
 }
