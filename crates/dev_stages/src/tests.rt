@@ -170,6 +170,17 @@ fn is_refused(alloc: Global, change: &Change, fault: PlanFault) -> Result<bool, 
     }
 }
 
+/// Whether the one stage that a change touches is refused with a fault.
+fn is_refused_alone(alloc: Global, change: &Change, fault: PlanFault) -> Result<bool, AllocError>
+    requires { ChangeInRange change.now }
+{
+    let frame = frame_of(alloc, no_lists())?;
+    match stage_of(alloc, &frame, &settings_after(change), change) {
+        Ok(_) => Ok(false),
+        Err(other) => Ok(other == fault),
+    }
+}
+
 /// Whether two changes give the same stages.
 fn are_alike(alloc: Global, change: &Change, other: &Change) -> Result<bool, AllocError>
     requires one { ChangeInRange change.now }
@@ -230,7 +241,10 @@ fn plans(rt: HostRuntime) -> Result<(), Fail> {
     assert!(rt; has_kinds(alloc, no_lists(), &first, &names)?);
     let second = Change::Matrix(MatrixChoice::Forward2);
     assert!(rt; is_refused(alloc, &second, PlanFault::Matrix)?);
-    assert!(rt; is_refused(alloc, &Change::Black(Some(65_535)), PlanFault::Levels)?);
+    assert!(rt; is_refused_alone(alloc, &second, PlanFault::Matrix)?);
+    let black = Change::Black(Some(65_535));
+    assert!(rt; is_refused(alloc, &black, PlanFault::Levels)?);
+    assert!(rt; is_refused_alone(alloc, &black, PlanFault::Levels)?);
     assert!(rt; has_kinds(alloc, no_lists(), &Change::Black(Some(65_534)), &names)?);
     Ok(())
 }
