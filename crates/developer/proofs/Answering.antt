@@ -1,11 +1,11 @@
 -- The lines of a script, answered one after the other in any state.
 use Rattle.std.proofs.Common.{◌≡◌, ℕ, ◌+◌, ◌*◌, ◌^◌, ◌<◌, ◌≤◌, nat_eq, false, List, [], ◌∷◌, ◌++◌, length, Ok, Err, refl, sym, ◌∙◌, ap, subst, append_assoc, length-append, arith}
 use Rattle.std.proofs.lemmas.List.{append-nil}
-use Rattle.raw_io.specs.declared.whole.WriteFault.{WriteFault}
 use Rattle.dev_settings.specs.Lines.{Lines, all_lines, last_line, lines_of, unended, with_first}
 use Rattle.developer.specs.Answers.{Answer, answers, then_answer}
 use Rattle.developer.specs.Replies.{max_answer}
 use Rattle.developer.specs.Writes.{Writes}
+use Rattle.developer.specs.declared.writing.Stop.{Stop}
 use Rattle.developer.proofs.Written.{writes_nothing, writes_same, writes_stops, writes_value}
 
 -- the answers to lines in two pieces
@@ -73,16 +73,16 @@ module _ {State : Type 0} (answer : State → List ℕ → Answer State) (start 
             }
 
         -- a line that wasn't answered whole
-        pub so_far_stops : {T : Type 0} (new : S) (length_of : T → ℕ) (fault : WriteFault) → Writes {T = ℕ} stands_for faults first new ((answers answer start so-far.front).bytes ++ (answer state line).bytes) (λ n. n) (Err fault)
-            → Writes stands_for faults first new (answers answer start (lines_of script).complete).bytes length_of (Err fault)
-        so_far_stops new length_of fault w =
+        pub so_far_stops : {T : Type 0} (new : S) (length_of : T → ℕ) (stop : Stop) → Writes {T = ℕ} stands_for faults first new ((answers answer start so-far.front).bytes ++ (answer state line).bytes) (λ n. n) (Err stop)
+            → Writes stands_for faults first new (answers answer start (lines_of script).complete).bytes length_of (Err stop)
+        so_far_stops new length_of stop w =
             let more = answers_more so-far.front line state so-far.reached in
             let all = answers-append answer start (so-far.front ++ line ∷ []) (lines_of after).complete in
             let last : List ℕ = (answers answer (answers answer start (so-far.front ++ line ∷ [])).state (lines_of after).complete).bytes in
             let whole : ((answers answer start so-far.front).bytes ++ (answer state line).bytes) ++ last ≡ (answers answer start (lines_of script).complete).bytes =
             ap (λ (a : Answer State). a.bytes ++ last) (sym more) ∙ (ap (λ (a : Answer State). a.bytes) (sym all) ∙ ap (λ (lines : List (List ℕ)). (answers answer start lines).bytes) next_lines) in
-            writes_same stands_for faults first new _ _ length_of (Err fault) whole
-            (writes_stops stands_for faults first new ((answers answer start so-far.front).bytes ++ (answer state line).bytes) last (λ n. n) length_of fault w)
+            writes_same stands_for faults first new _ _ length_of (Err stop) whole
+            (writes_stops stands_for faults first new ((answers answer start so-far.front).bytes ++ (answer state line).bytes) last (λ n. n) length_of stop w)
 
       module _ (is : lines_of rest ≡ unended rest) where
         -- no line is left

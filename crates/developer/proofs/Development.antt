@@ -1,13 +1,16 @@
 -- The raw plane of a frame, and what is developed of it.
-use Rattle.std.proofs.Common.{◌≡◌, ℕ, ℤ, pos, int_lt, cond, true, false, List, [], ◌∷◌, ◌++◌, Option, None, Some, Ok, Err, refl, sym, ◌∙◌, ap}
+use Rattle.std.proofs.Common.{◌≡◌, ℕ, ◌+◌, ◌≤◌, ℤ, length, length-append, subst, arith, pos, int_lt, cond, true, false, List, [], ◌∷◌, ◌++◌, Option, None, Some, Ok, Err, refl, sym, ◌∙◌, ap}
 use Rattle.std.specs.Prelude.{unwrap_or}
 use Rattle.plane_view.specs.Plane.{Plane}
+use Rattle.plane_view.specs.Shapes.{IsShape}
+use Rattle.plane_view.specs.declared.Shape.{Shape}
+use Rattle.stage_core.specs.Planes.{IsPlane}
 use Rattle.stage_core.specs.Stages.{shape_of}
-use Rattle.stage_chain.specs.Chains.{whole_of}
+use Rattle.stage_chain.specs.Chains.{TakeInTurn, whole_of}
 use Rattle.dng_tags.specs.Facts.{IsFrame}
-use Rattle.dng_tags.specs.Raw.{raw, segments_plane}
+use Rattle.dng_tags.specs.Raw.{coding_of, raw, segments_plane}
 use Rattle.dng_tags.specs.declared.record.Frame.{Frame}
-use Rattle.dev_stages.specs.Members.{apply_of}
+use Rattle.dev_stages.specs.Members.{apply_of, shaped_of, takes_of}
 use Rattle.opcode_list.specs.declared.opcode.Opcode.{Opcode}
 use Rattle.opcode_list.specs.declared.opcode.Opcode.TheVariants.{FixConstant, FixList, Map, Skipped, Trim}
 use Rattle.dev_stages.specs.Listed.{listed}
@@ -17,7 +20,12 @@ use Rattle.dev_stages.specs.declared.stage.DevStage.TheVariants as stage
 use Rattle.colour_matrix.specs.Matrices.{camera_matrix}
 use Rattle.dev_settings.specs.declared.settings.Settings.{Settings}
 use Rattle.dev_stages.specs.declared.fault.PlanFault.TheVariants as fault
-use Rattle.developer.specs.Develop.{develop, stages_under}
+use Rattle.dev_stages.specs.Laws.{planes_of, shapes_of}
+use Rattle.dev_stages.proofs.PlanLemmas.{plannable, takes_planned}
+use Rattle.frame_segments.proofs.Opening.{plane_is}
+use Rattle.region_session.specs.Sessions.{Opened as Session}
+use Rattle.region_session.specs.Stacks.{last_shape}
+use Rattle.developer.specs.Develop.{Develops, IsUnder, develop, stages_under}
 
 -- the shape of a raw plane
 pub shape_of_raw : (bytes : List ℕ) (frame : Frame) → IsFrame frame bytes → shape_of (raw bytes frame) ≡ frame.shape
@@ -74,3 +82,83 @@ three_planes frame settings stages P is =
 pub planned_develops : (bytes : List ℕ) (frame : Frame) (settings : Settings) (stages : List DevStage) → planned frame settings ≡ Ok stages → whole_of apply_of stages (raw bytes frame) ≡ develop bytes frame settings
 unfolding develop
 planned_develops bytes frame settings stages is = ap (λ (xs : List DevStage). whole_of apply_of xs (raw bytes frame)) (planned_stages frame settings stages is)
+
+-- a plane that stages make, one after the other
+made_plane : (stages : List DevStage) (input : Shape) (P : Plane) → IsShape input → TakeInTurn takes_of shaped_of stages input → IsPlane P input
+    → IsPlane (whole_of apply_of stages P) (last_shape shaped_of input stages) × IsShape (last_shape shaped_of input stages)
+made_plane [] input P shape takes is = (is, shape)
+made_plane (s ∷ stages) input P shape takes is =
+    made_plane stages (shaped_of s input) (apply_of s P) (shapes_of s input shape takes.0) takes.1 (planes_of s input P takes.0 is)
+
+-- the raw plane of a frame that was read
+pub raw_plane : (bytes : List ℕ) (frame : Frame) → IsFrame frame bytes → IsPlane (raw bytes frame) frame.shape
+raw_plane bytes frame is = plane_is bytes (coding_of frame) frame.shape frame.segments is.shape.planes
+
+-- the stages of a plan develop it
+pub plan_develops : (bytes : List ℕ) (frame : Frame) (settings : Settings) (stages : List DevStage) → IsFrame frame bytes → planned frame settings ≡ Ok stages → Develops (raw bytes frame) stages
+plan_develops bytes frame settings stages is are =
+    let input : shape_of (raw bytes frame) ≡ frame.shape = shape_of_raw bytes frame is in
+    let takes : TakeInTurn takes_of shaped_of stages frame.shape = takes_planned frame settings stages (plannable frame bytes is) are in
+    let limits : IsShape frame.shape = record {
+      some_rows = omega (arith, is.shape.some_rows);
+      rows = omega (arith, is.shape.rows);
+      some_cols = omega (arith, is.shape.some_cols);
+      cols = omega (arith, is.shape.cols);
+      some_planes = omega (arith, is.shape.planes);
+      planes = omega (arith, is.shape.planes);
+    } in
+    let made = made_plane stages frame.shape (raw bytes frame) limits takes (raw_plane bytes frame is) in
+    let last : Shape = last_shape shaped_of frame.shape stages in
+    let shape : shape_of (whole_of apply_of stages (raw bytes frame)) ≡ last = λ i. record { rows = made.0.shape.rows i; cols = made.0.shape.cols i; planes = made.0.shape.planes i } in
+    record {
+      takes = subst (TakeInTurn takes_of shaped_of stages) (sym input) takes;
+      shape = shape ∙ ap (λ (t : Shape). last_shape shaped_of t stages) (sym input);
+      developed = record {
+        rows = omega (arith, made.0.shape.rows, made.1.rows);
+        cols = omega (arith, made.0.shape.cols, made.1.cols);
+        planes = three_planes frame settings stages (raw bytes frame) are;
+        whole = made.0.whole;
+      };
+    }
+
+-- what holds of an opened frame develops its raw plane
+pub under_develops : (bytes : List ℕ) (frame : Frame) (settings : Settings) (session : Session DevStage) → IsUnder bytes frame settings session → Develops session.plane session.stages
+under_develops bytes frame settings session is =
+    subst (λ (P : Plane). Develops P session.stages) (sym is.plane) (plan_develops bytes frame settings session.stages is.read is.stages)
+
+-- the plane that it is developed to
+pub under_plane : (bytes : List ℕ) (frame : Frame) (settings : Settings) (session : Session DevStage) → IsUnder bytes frame settings session
+    → whole_of apply_of session.stages session.plane ≡ develop bytes frame settings
+under_plane bytes frame settings session is =
+    ap (whole_of apply_of session.stages) is.plane ∙ planned_develops bytes frame settings session.stages is.stages
+
+-- few opcodes have few stages
+few_listed : (opcodes : List Opcode) → length (listed opcodes) ≤ length opcodes
+unfolding listed
+few_listed [] = omega arith
+few_listed (FixConstant constant phase ∷ more) = omega (arith, few_listed more)
+few_listed (FixList phase points rects ∷ more) = omega (arith, few_listed more)
+few_listed (Trim rect ∷ more) = omega (arith, few_listed more)
+few_listed (Map rect plane planes row_pitch col_pitch table ∷ more) = omega (arith, few_listed more)
+few_listed (Skipped id ∷ more) = omega (arith, few_listed more)
+
+-- how long three lists with seven more stages are
+seven_more : (one two three : List DevStage) (p q r s t u v : DevStage) → length (one ++ (p ∷ q ∷ (two ++ (r ∷ (three ++ (s ∷ t ∷ u ∷ v ∷ [])))))) ≡ length one + length two + length three + 7
+seven_more one two three p q r s t u v =
+    omega (
+      arith,
+      length-append one (p ∷ q ∷ (two ++ (r ∷ (three ++ (s ∷ t ∷ u ∷ v ∷ []))))),
+      length-append two (r ∷ (three ++ (s ∷ t ∷ u ∷ v ∷ []))),
+      length-append three (s ∷ t ∷ u ∷ v ∷ []),
+    )
+
+-- how many stages a development has
+stage_count : (frame : Frame) (settings : Settings) (matrix : List ℤ) → length (stages_with frame settings matrix) ≡ length (listed frame.list1) + length (listed frame.list2) + length (listed frame.list3) + 7
+unfolding stages_with in_order
+stage_count frame settings matrix = seven_more (listed frame.list1) (listed frame.list2) (listed frame.list3) _ _ _ _ _ _ _
+
+-- 7 to 55
+pub few_stages : (bytes : List ℕ) (frame : Frame) (settings : Settings) (stages : List DevStage) → IsFrame frame bytes → planned frame settings ≡ Ok stages → (1 ≤ length stages) × (length stages ≤ 64)
+few_stages bytes frame settings stages is are =
+    let count = ap length (planned_stages frame settings stages are) ∙ stage_count frame settings (unwrap_or (chosen_matrix frame.colour settings.matrix) camera_matrix) in
+    (omega (arith, count), omega (arith, count, few_listed frame.list1, few_listed frame.list2, few_listed frame.list3, is.few1, is.few2, is.few3))

@@ -7,7 +7,10 @@ use Rattle.raw_io.specs.Outside.{IsFrontOf, Takes}
 use Rattle.dev_settings.specs.Lines.{all_lines, lines_of}
 use Rattle.developer.specs.Opening.{Opened, Opening, Transcript}
 use Rattle.developer.specs.Transcript.{answers_of, by_opening, by_script, by_told_script, max_script}
-use Rattle.developer.specs.Run.{Call, Completes, Ends, IsCalled, IsOpened, IsPrefix, called, opening}
+use Rattle.developer.specs.Run.{Call, Completes, Ends, IsCalled, IsOpened, IsPrefix, called, ending_of, opening, status_of}
+use Rattle.developer.specs.Writes.{ByCause}
+use Rattle.developer.specs.declared.writing.Cause.{Cause}
+use Rattle.developer.specs.declared.writing.Cause.TheVariants as causes
 use Rattle.developer.specs.declared.status.Status.{Status}
 use Rattle.developer.specs.declared.status.Status.TheVariants.{Done, Usage, ReadFault, WriteFault, Memory, ScriptTooLong}
 use Rattle.developer.specs.declared.status.Status.TheVariants as statuses
@@ -74,6 +77,11 @@ module _ (call : Call) (frame : Opened) (opens : IfSome (opening call) (λ o. o 
   frame_prefix bytes status calls front =
       by_frame (opening call) frame call.before.left (λ e. IsFrontOf call.written e.bytes) opens
       (if_some (by_told_script frame call.before.left) (λ e. (e.status ≡ status) × (e.bytes ≡ bytes)) (λ e. IsFrontOf call.written e.bytes) (λ e h. subst (IsFrontOf call.written) (sym h.1) front) calls)
+
+-- an answer that is cut short
+pub stopped_ends : (call : Call) (cause : Cause) → ByCause cause call.before.sink_faults call.after.sink_faults → IsPrefix call → Ends call (status_of (ending_of cause))
+stopped_ends call causes.Write by front = (by, front)
+stopped_ends call causes.Memory by front = front
 
 -- a refusal before the script is what is called for
 refused_called : (o : Option Opening) (script : Option (List ℕ)) (written : List ℕ) (status : Status) → IfSome o (λ f. f ≡ Err (record { bytes = written; status = status })) → IfSome (by_opening o script) (λ e. (e.status ≡ status) × (written ≡ e.bytes))

@@ -1,6 +1,6 @@
 -- The bytes of an image, row by row.
-use Rattle.std.proofs.Common.{◌≡◌, ℕ, ◌+◌, ◌*◌, ◌-◌, ◌<◌, ◌≤◌, List, [], ◌++◌, length, take, drop, sym, ◌∙◌, ap, subst, append_assoc, length-append, arith}
-use Rattle.std.proofs.lemmas.List.{take-append-drop}
+use Rattle.std.proofs.Common.{◌≡◌, ℕ, zero, suc, ◌+◌, ◌*◌, ◌-◌, ◌≤◌, List, [], ◌++◌, length, take, drop, Option, None, Some, refl, sym, ◌∙◌, ap, subst, append_assoc, length-append, arith}
+use Rattle.std.proofs.lemmas.List.{append-nil, take-append-drop}
 use Rattle.std.proofs.Math.Nat.{mul-le-mul_right}
 use Rattle.plane_view.specs.Plane.{Plane, IsWhole, crop}
 use Rattle.plane_view.specs.Rectangles.{LiesIn, rect_of}
@@ -10,9 +10,8 @@ use Rattle.dev_settings.specs.declared.format.Format.{Format}
 use Rattle.dev_settings.specs.declared.format.Format.TheVariants.{Ppm, Tiff}
 use Rattle.image_out.specs.Image.{head_of, pixels_of, reply_head_of}
 use Rattle.image_out.specs.ImageLaws.{length-image_of, length-pixels_of, pixels_of-append}
-use Rattle.raw_io.specs.Outside.{IsFrontOf}
 use Rattle.developer.specs.Develop.{IsDeveloped, IsWithin}
-use Rattle.developer.specs.Replies.{image, image_reply, max_answer}
+use Rattle.developer.specs.Replies.{image, image_reply, max_answer, no_region, part_of, region_reply}
 
 -- the bytes of the first k rows of a crop
 pub rows_of : Format → Plane → Rect → ℕ → List ℕ
@@ -24,48 +23,68 @@ unfolding rows_of
 rows_none Ppm P rect = ap (pixels_of Ppm) (crop_none P rect)
 rows_none Tiff P rect = ap (pixels_of Tiff) (crop_none P rect)
 
--- one row more
-pub rows_more : (format : Format) (P : Plane) (rect : Rect) (k row : ℕ) → IsWhole P → LiesIn rect (rect_of P) → rect.left ≤ rect.right → rect.top + k ≡ row → row < rect.bottom
-    → rows_of format P rect (k + 1) ≡ rows_of format P rect k ++ pixels_of format (take ((rect.right - rect.left) * P.planes) (drop ((row * P.cols + rect.left) * P.planes) P.samples))
-unfolding rows_of
-rows_more format P rect k row whole lies order is-row below =
-    let inside : k < rect.bottom - rect.top = omega arith in
-    ap (pixels_of format) (crop_more P rect k whole lies order inside)
-    ∙ (pixels_of-append format _ _ ∙ ap (λ (r : ℕ). rows_of format P rect k ++ pixels_of format (take ((rect.right - rect.left) * P.planes) (drop ((r * P.cols + rect.left) * P.planes) P.samples))) is-row)
-
 -- all rows
 pub rows_all : (format : Format) (P : Plane) (rect : Rect) → rows_of format P rect (rect.bottom - rect.top) ≡ pixels_of format (crop P rect).samples
 unfolding rows_of
 rows_all format P rect = ap (pixels_of format) (crop_all P rect)
 
--- the first rows are a front of all
-pub rows_front : (format : Format) (P : Plane) (rect : Rect) (k : ℕ) → IsFrontOf (rows_of format P rect k) (pixels_of format (crop P rect).samples)
+-- rows of a crop, and then those of a rectangle right below them
+crop_then : (P : Plane) (rect band : Rect) (k j : ℕ) → IsWhole P → LiesIn rect (rect_of P) → rect.left ≤ rect.right → band.left ≡ rect.left → band.right ≡ rect.right → rect.top + k ≡ band.top
+    → band.bottom ≤ rect.bottom → j ≤ band.bottom - band.top
+    → take ((k + j) * ((rect.right - rect.left) * P.planes)) (crop P rect).samples
+    ≡ take (k * ((rect.right - rect.left) * P.planes)) (crop P rect).samples ++ take (j * ((band.right - band.left) * P.planes)) (crop P band).samples
+crop_then P rect band k zero whole lies order left right top low few =
+    ap (λ (n : ℕ). take (n * ((rect.right - rect.left) * P.planes)) (crop P rect).samples) (let none : k + zero ≡ k = omega arith in none)
+    ∙ (sym (append-nil (take (k * ((rect.right - rect.left) * P.planes)) (crop P rect).samples))
+    ∙ ap (λ (xs : List ℕ). take (k * ((rect.right - rect.left) * P.planes)) (crop P rect).samples ++ xs) (sym (crop_none P band)))
+crop_then P rect band k (suc j) whole lies order left right top low few =
+    let w : ℕ = (rect.right - rect.left) * P.planes in
+    let inside : LiesIn band (rect_of P) = record { top = omega arith; bottom = omega (arith, low, lies.bottom); left = omega arith; right = omega (arith, right, lies.right) } in
+    let same : (band.right - band.left) * P.planes ≡ w = rw (left, right) refl in
+    let next : k + suc j ≡ k + j + 1 = omega arith in
+    let more = crop_more P rect (k + j) whole lies order (omega (arith, top, low, few)) in
+    let band_more = crop_more P band j whole inside (omega (arith, left, right, order)) (omega (arith, few)) in
+    let row : List ℕ = take w (drop (((rect.top + (k + j)) * P.cols + rect.left) * P.planes) P.samples) in
+    let there : take ((band.right - band.left) * P.planes) (drop (((band.top + j) * P.cols + band.left) * P.planes) P.samples) ≡ row =
+    ap (λ (n : ℕ). take n (drop (((band.top + j) * P.cols + band.left) * P.planes) P.samples)) same
+    ∙ ap (λ (n : ℕ). take w (drop n P.samples)) (let at : ((band.top + j) * P.cols + band.left) * P.planes ≡ ((rect.top + (k + j)) * P.cols + rect.left) * P.planes = rw (left, ← top) omega arith in at) in
+    ap (λ (n : ℕ). take (n * w) (crop P rect).samples) next
+    ∙ (more
+    ∙ (ap (λ (xs : List ℕ). xs ++ row) (crop_then P rect band k j whole lies order left right top low (omega (arith, few)))
+    ∙ (append_assoc (take (k * w) (crop P rect).samples) (take (j * ((band.right - band.left) * P.planes)) (crop P band).samples) row
+    ∙ ap (λ (xs : List ℕ). take (k * w) (crop P rect).samples ++ xs)
+    (ap (λ (xs : List ℕ). take (j * ((band.right - band.left) * P.planes)) (crop P band).samples ++ xs) (sym there)
+    ∙ (sym band_more ∙ ap (λ (n : ℕ). take (n * ((band.right - band.left) * P.planes)) (crop P band).samples) (let s : j + 1 ≡ suc j = omega arith in s))))))
+
+-- the rows above a band, and the band
+pub rows_band : (format : Format) (P : Plane) (rect band : Rect) → IsWhole P → IsWithin rect P → band.left ≡ rect.left → band.right ≡ rect.right → rect.top ≤ band.top → band.top ≤ band.bottom → band.bottom ≤ rect.bottom
+    → rows_of format P rect (band.top - rect.top) ++ pixels_of format (crop P band).samples ≡ rows_of format P rect (band.bottom - rect.top)
 unfolding rows_of
-rows_front format P rect k = (
+rows_band format P rect band whole within left right after order low =
+    let k : ℕ = band.top - rect.top in
+    let j : ℕ = band.bottom - band.top in
+    let all : k + j ≡ band.bottom - rect.top = omega arith in
+    let lies : LiesIn rect (rect_of P) = record { top = omega arith; bottom = within.bottom; left = omega arith; right = within.right } in
+    ap (λ (xs : List ℕ). rows_of format P rect k ++ pixels_of format xs) (sym (crop_all P band))
+    ∙ (sym (pixels_of-append format _ _)
+    ∙ (ap (pixels_of format) (sym (crop_then P rect band k j whole lies (omega (arith, within.cols)) left right (omega arith) low (omega arith)))
+    ∙ ap (rows_of format P rect) all))
+
+-- the rows up to one, and those that are left
+pub rows_left : (format : Format) (P : Plane) (rect : Rect) (k : ℕ) → (more : List ℕ) × (rows_of format P rect k ++ more ≡ pixels_of format (crop P rect).samples)
+unfolding rows_of
+rows_left format P rect k = (
   pixels_of format (drop (k * ((rect.right - rect.left) * P.planes)) (crop P rect).samples),
-  ap (pixels_of format) (sym (take-append-drop (k * ((rect.right - rect.left) * P.planes)) (crop P rect).samples)) ∙ pixels_of-append format _ _,
+  sym (pixels_of-append format _ _)
+      ∙ ap (pixels_of format) (take-append-drop (k * ((rect.right - rect.left) * P.planes)) (crop P rect).samples),
 )
 
--- the rows up to a row and with it
-pub row_more : (format : Format) (P : Plane) (rect : Rect) (row : ℕ) (samples : List ℕ) → IsDeveloped P → IsWithin rect P → rect.top ≤ row → row < rect.bottom
-    → samples ≡ take ((rect.right - rect.left) * 3) (drop ((row * P.cols + rect.left) * 3) P.samples)
-    → rows_of format P rect (row + 1 - rect.top) ≡ rows_of format P rect (row - rect.top) ++ pixels_of format samples
-row_more format P rect row samples developed within after before is-samples =
-    let lies : LiesIn rect (rect_of P) = record { top = omega arith; bottom = within.bottom; left = omega arith; right = within.right } in
-    let next : row + 1 - rect.top ≡ row - rect.top + 1 = omega arith in
-    let here : rect.top + (row - rect.top) ≡ row = omega arith in
-    ap (rows_of format P rect) next
-    ∙ (rows_more format P rect (row - rect.top) row developed.whole lies within.cols here before
-    ∙ ap (λ (bytes : List ℕ). rows_of format P rect (row - rect.top) ++ bytes)
-    (ap (λ (n : ℕ). pixels_of format (take ((rect.right - rect.left) * n) (drop ((row * P.cols + rect.left) * n) P.samples))) developed.planes
-    ∙ ap (pixels_of format) (sym is-samples)))
-
 -- how many samples a part of a developed plane has
-length-part : (P : Plane) (rect : Rect) → IsDeveloped P → length (crop P rect).samples ≡ (rect.bottom - rect.top) * (rect.right - rect.left) * 3
+pub length-part : (P : Plane) (rect : Rect) → IsDeveloped P → length (crop P rect).samples ≡ (rect.bottom - rect.top) * (rect.right - rect.left) * 3
 length-part P rect developed = length-crop P rect ∙ ap (λ (k : ℕ). (rect.bottom - rect.top) * (rect.right - rect.left) * k) developed.planes
 
 -- the most samples of a part
-few_samples : (h w : ℕ) → h ≤ 8192 → w ≤ 8192 → h * w ≤ 67108864
+pub few_samples : (h w : ℕ) → h ≤ 8192 → w ≤ 8192 → h * w ≤ 67108864
 few_samples h w rows cols =
     let first : h * w ≤ 8192 * w = mul-le-mul_right w rows in
     omega arith
@@ -106,3 +125,25 @@ pub few_reply : (format : Format) (P : Plane) (rect : Rect) (heads : List ℕ) �
 few_reply format P rect heads developed within short is =
     subst (λ (bytes : List ℕ). length bytes ≤ max_answer) is
     (omega (arith, length-append heads (pixels_of format (crop P rect).samples), few_bytes format P rect developed within))
+
+-- the reply to a region, by its rectangle
+reply_some : (Q : Plane) (format : Format) (o : Option Rect) (rect : Rect) → o ≡ Some rect → region_reply Q format o ≡ image_reply (image Q rect format)
+unfolding region_reply
+reply_some Q format o rect is = rw is refl
+
+reply_none : (Q : Plane) (format : Format) (o : Option Rect) → o ≡ None → region_reply Q format o ≡ no_region
+unfolding region_reply
+reply_none Q format o is = rw is refl
+
+-- the same of a plane that equals the one that has the rectangle
+pub region_some : (P Q : Plane) (format : Format) (x y w h : ℕ) (rect : Rect) → P ≡ Q → part_of P x y w h ≡ Some rect → region_reply Q format (part_of Q x y w h) ≡ image_reply (image P rect format)
+region_some P Q format x y w h rect same is =
+    reply_some Q format (part_of Q x y w h) rect (ap (λ (R : Plane). part_of R x y w h) (sym same) ∙ is)
+    ∙ ap (λ (R : Plane). image_reply (image R rect format)) (sym same)
+
+pub region_none : (P Q : Plane) (format : Format) (x y w h : ℕ) → P ≡ Q → part_of P x y w h ≡ None → region_reply Q format (part_of Q x y w h) ≡ no_region
+region_none P Q format x y w h same is = reply_none Q format (part_of Q x y w h) (ap (λ (R : Plane). part_of R x y w h) (sym same) ∙ is)
+
+-- a refusal is short
+pub few_none : length no_region ≤ max_answer
+few_none = omega arith

@@ -1,4 +1,6 @@
 mod Answering
+mod Bands
+mod Chaining
 mod Endings
 mod Images
 mod Openings

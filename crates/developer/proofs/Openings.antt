@@ -12,9 +12,8 @@ use Rattle.dng_tags.specs.declared.record.Frame.{Frame}
 use Rattle.tag_rules.specs.declared.faults.FrameFault.{FrameFault}
 use Rattle.tag_rules.specs.declared.faults.FrameFault.TheVariants.{TooLong}
 use Rattle.tag_rules.specs.declared.faults.FrameFault.TheVariants as frames
-use Rattle.plane_view.specs.Plane.{Plane}
 use Rattle.dev_settings.specs.declared.settings.Settings.{Settings}
-use Rattle.developer.specs.Opening.{FrameFile, Opening, Transcript, file_frame, frame_as, if_decoded, opened_by, opened_for, opened_named, opened_next, opened_under, refused_frame, refused_settings, told_frame}
+use Rattle.developer.specs.Opening.{FrameFile, Opened, Opening, Transcript, file_frame, frame_as, if_decoded, opened_by, opened_for, opened_named, opened_next, opened_under, refused_frame, refused_settings, told_frame}
 use Rattle.developer.specs.Opens.{Opens, OpensFiles, open_fault, refused_or_memory, stopped}
 use Rattle.developer.specs.Planning.{PlansUnder, seen}
 use Rattle.developer.specs.SettingsFile.{Refused, file_settings}
@@ -111,10 +110,8 @@ module _ (told : List ℕ → Option (List ℕ)) (before after : List ℕ → �
       accepted decoded = file_read (Ok frame) (file_decoded bytes frame None short is-frame decoded)
 
       -- and is opened
-      pub opens_ok : (answer : Settings × Plane) → Opens told mid after (record { bytes = bytes; frame = frame }) chosen.settings (Ok answer)
-          → IfSome (opened_for (Some chosen) told) (λ o. o ≡ Ok (record { bytes = bytes; frame = frame; settings = answer.0 }))
-      opens_ok answer h =
-          next_accepted (told_frame (told chosen.frame)) (record { bytes = bytes; frame = frame }) chosen.settings told (λ o. o ≡ Ok (record { bytes = bytes; frame = frame; settings = answer.0 })) (accepted h.0) h.1
+      pub opens_ok : (opened : Opened) → Opens told mid after (record { bytes = bytes; frame = frame }) chosen.settings (Ok opened) → IfSome (opened_for (Some chosen) told) (λ o. o ≡ Ok opened)
+      opens_ok opened h = next_accepted (told_frame (told chosen.frame)) (record { bytes = bytes; frame = frame }) chosen.settings told (λ o. o ≡ Ok opened) (accepted h.0) h.1
 
       -- or isn't
       pub opens_err : (fault : OpenFault) → Opens told mid after (record { bytes = bytes; frame = frame }) chosen.settings (Err fault) → OpensFiles told before after chosen (Err fault)
@@ -129,3 +126,8 @@ module _ (told : List ℕ → Option (List ℕ)) (before after : List ℕ → �
             if_some (told_frame (told chosen.frame)) (λ o. o ≡ Ok (record { bytes = bytes; frame = frame })) IsOk (λ o e. subst IsOk (sym e) refl) (accepted h.0),
           )
       opens_err openings.Memory h = tt
+
+      -- it is or it isn't
+      pub opens_either : (result : Result Opened OpenFault) → Opens told mid after (record { bytes = bytes; frame = frame }) chosen.settings result → OpensFiles told before after chosen result
+      opens_either (Ok opened) h = opens_ok opened h
+      opens_either (Err fault) h = opens_err fault h

@@ -1,83 +1,132 @@
--- Rows that are written in pieces.
-use Rattle.std.proofs.Common.{◌≡◌, ℕ, ◌+◌, ◌-◌, ◌*◌, ◌^◌, ◌<◌, ◌≤◌, List, [], ◌++◌, length, take, drop, Result, Ok, Err, refl, sym, ◌∙◌, ap, append_assoc, arith, length-append}
-use Rattle.std.proofs.lemmas.List.{append-nil}
-use Rattle.plane_view.specs.Plane.{Plane, crop}
-use Rattle.plane_view.specs.declared.Rect.{Rect}
-use Rattle.raw_io.specs.declared.whole.WriteFault.{WriteFault}
+-- Bytes that are written in pieces.
+use Rattle.std.proofs.Common.{◌≡◌, ℕ, ◌+◌, ◌*◌, ◌<◌, List, [], ◌++◌, length, take, drop, Result, Ok, Err, refl, sym, ◌∙◌, ap, append_assoc, arith, length-append}
+use Rattle.std.proofs.lemmas.List.{append-nil, take-append-drop}
 use Rattle.dev_settings.specs.declared.format.Format.{Format}
+use Rattle.dev_settings.specs.declared.format.Format.TheVariants.{Ppm, Tiff}
 use Rattle.image_out.specs.Image.{pixels_of}
-use Rattle.developer.specs.Develop.{IsDeveloped, IsWithin}
+use Rattle.image_out.specs.ImageLaws.{pixels_of-append}
+use Rattle.developer.specs.Pieces.{InPieces}
 use Rattle.developer.specs.Writes.{Writes}
-use Rattle.developer.proofs.Images.{few_bytes, row_more, rows_all, rows_front, rows_none, rows_of}
+use Rattle.developer.specs.declared.writing.Stop.{Stop}
 use Rattle.developer.proofs.Written.{writes_nothing, writes_same, writes_stops}
 
--- of the heads and the rows before a row, these bytes were written, and the piece holds the others
-pub record InPieces {S : Type 0} (stands_for : S → List ℕ → Type 0) (faults : S → ℕ) (first now : S) (heads piece : List ℕ) (written : ℕ) (format : Format) (P : Plane) (rect : Rect) (row : ℕ) : Type 0 where
-  pub sent : List ℕ
-  pub writes : Writes {T = ℕ} stands_for faults first now sent (λ n. n) (Ok written)
-  pub rows : sent ++ piece ≡ heads ++ rows_of format P rect (row - rect.top)
+module _ {S : Type 0} (stands_for : S → List ℕ → Type 0) (faults : S → ℕ) (first : S) where
+  -- no byte was written
+  pub pieces_none : (piece : List ℕ) → InPieces stands_for faults first first piece piece 0
+  pieces_none piece = record { sent = []; writes = writes_nothing stands_for faults first (λ n. n) 0 refl; rest = refl }
+
+  -- the same bytes
+  pub pieces_same : (now : S) (all others piece : List ℕ) (written : ℕ) → all ≡ others → InPieces stands_for faults first now all piece written → InPieces stands_for faults first now others piece written
+  pieces_same now all others piece written is so-far = record { sent = so-far.sent; writes = so-far.writes; rest = so-far.rest ∙ is }
+
+  module _ (now : S) (all piece : List ℕ) (written : ℕ) (so-far : InPieces stands_for faults first now all piece written) where
+    -- what the piece holds is written last
+    pub pieces_end : (new : S) (result : Result ℕ Stop) → Writes stands_for faults first new (so-far.sent ++ piece) (λ n. n) result → Writes stands_for faults first new all (λ n. n) result
+    pieces_end new result w = writes_same stands_for faults first new (so-far.sent ++ piece) all (λ n. n) result so-far.rest w
+
+    module _ (more held : List ℕ) (is : held ≡ piece ++ more) where
+      -- more bytes are behind what was written
+      with_more : so-far.sent ++ held ≡ all ++ more
+      with_more =
+          ap (λ (bytes : List ℕ). so-far.sent ++ bytes) is
+          ∙ (sym (append_assoc so-far.sent piece more) ∙ ap (λ (bytes : List ℕ). bytes ++ more) so-far.rest)
+
+      -- the piece holds them
+      pub pieces_held : InPieces stands_for faults first now (all ++ more) held written
+      pieces_held = record { sent = so-far.sent; writes = so-far.writes; rest = with_more }
+
+      -- the piece was written with them
+      pub pieces_sent : (new : S) (total : ℕ) → Writes {T = ℕ} stands_for faults first new (so-far.sent ++ held) (λ n. n) (Ok total) → InPieces stands_for faults first new (all ++ more) [] total
+      pieces_sent new total w =
+          record { sent = so-far.sent ++ held; writes = w; rest = append-nil (so-far.sent ++ held) ∙ with_more }
+
+      -- writing it stopped
+      pub pieces_stop : (new : S) (behind : List ℕ) (stop : Stop) → Writes {T = ℕ} stands_for faults first new (so-far.sent ++ held) (λ n. n) (Err stop) → Writes {T = ℕ} stands_for faults first new ((all ++ more) ++ behind) (λ n. n) (Err stop)
+      pieces_stop new behind stop w =
+          writes_stops stands_for faults first new (all ++ more) behind (λ n. n) (λ n. n) stop
+          (writes_same stands_for faults first new (so-far.sent ++ held) (all ++ more) (λ n. n) (Err stop) with_more w)
+
+-- the first of some samples were appended to a piece, which was written where it was full
+pub record Appended {S : Type 0} (stands_for : S → List ℕ → Type 0) (faults : S → ℕ) (format : Format) (start now : S) (samples rest held piece : List ℕ) (before written : ℕ) : Type 0 where
+  pub front : List ℕ
+  pub parts : front ++ rest ≡ samples
+  pub pieces : (first : S) (all : List ℕ) → InPieces stands_for faults first start all held before → InPieces stands_for faults first now (all ++ pixels_of format front) piece written
   pub room : length piece < 65536
+  pub number : written + length piece ≡ before + length held + 2 * length front
 
-module _ {S : Type 0} (stands_for : S → List ℕ → Type 0) (faults : S → ℕ) (first : S) (heads : List ℕ) (format : Format) (P : Plane) (rect : Rect) where
-  -- no row yet
-  pub pieces_none : length heads ≤ 256 → InPieces stands_for faults first first heads heads 0 format P rect rect.top
-  pieces_none short =
-      let none : rect.top - rect.top ≡ 0 = omega arith in
-      record {
-        sent = [];
-        writes = writes_nothing stands_for faults first (λ n. n) 0 refl;
-        rows = sym (append-nil heads) ∙ ap (λ (bytes : List ℕ). heads ++ bytes) (sym (ap (rows_of format P rect) none ∙ rows_none format P rect));
-        room = omega arith;
-      }
+-- a list that was cut
+pub cut_at : (n : ℕ) (rest row below : List ℕ) → row ≡ take n rest → below ≡ drop n rest → rest ≡ row ++ below
+cut_at n rest row below is-row is-below = sym (rw (is-row, is-below) (take-append-drop n rest))
 
-  module _ (now : S) (piece : List ℕ) (written row : ℕ) (so-far : InPieces stands_for faults first now heads piece written format P rect row) (developed : IsDeveloped P) (within : IsWithin rect P) where
-    -- the bytes that were written are few
-    pub pieces_few : length heads ≤ 256 → written < 2 ^ 60
-    pieces_few short =
-        let front = rows_front format P rect (row - rect.top) in
-        let all : length (rows_of format P rect (row - rect.top)) + length front.0 ≡ length (pixels_of format (crop P rect).samples) = sym (ap length front.1 ∙ length-append (rows_of format P rect (row - rect.top)) front.0) in
-        omega (arith, so-far.writes.number, sym (length-append so-far.sent piece) ∙ ap length so-far.rows, length-append heads (rows_of format P rect (row - rect.top)), all, few_bytes format P rect developed within)
+-- no byte of an empty list of samples
+no_pixels : (format : Format) → pixels_of format [] ≡ []
+no_pixels Ppm = refl
+no_pixels Tiff = refl
 
-    module _ (samples : List ℕ) (after : rect.top ≤ row) (before : row < rect.bottom) (is-samples : samples ≡ take ((rect.right - rect.left) * 3) (drop ((row * P.cols + rect.left) * 3) P.samples)) where
-      -- a row more in the piece
-      pub piece_rows : so-far.sent ++ (piece ++ pixels_of format samples) ≡ heads ++ rows_of format P rect (row + 1 - rect.top)
-      piece_rows =
-          sym (append_assoc so-far.sent piece (pixels_of format samples))
-          ∙ (ap (λ (bytes : List ℕ). bytes ++ pixels_of format samples) so-far.rows
-          ∙ (append_assoc heads (rows_of format P rect (row - rect.top)) (pixels_of format samples)
-          ∙ ap (λ (bytes : List ℕ). heads ++ bytes) (sym (row_more format P rect row samples developed within after before is-samples))))
+module _ {S : Type 0} (stands_for : S → List ℕ → Type 0) (faults : S → ℕ) (format : Format) (start : S) (samples held : List ℕ) (before : ℕ) where
+  -- none yet
+  pub appended_none : length held < 65536 → Appended stands_for faults format start start samples samples held held before before
+  appended_none room = record {
+    front = [];
+    parts = refl;
+    pieces = λ first all h. pieces_same stands_for faults first start all (all ++ pixels_of format []) held before (sym (append-nil all) ∙ ap (λ (bytes : List ℕ). all ++ bytes) (sym (no_pixels format))) h;
+    room = room;
+    number = omega arith;
+  }
 
-      -- the piece isn't full
-      pub pieces_held : (held : List ℕ) → held ≡ piece ++ pixels_of format samples → length held < 65536 → InPieces stands_for faults first now heads held written format P rect (row + 1)
-      pieces_held held is room = record {
-        sent = so-far.sent;
-        writes = so-far.writes;
-        rows = ap (λ (bytes : List ℕ). so-far.sent ++ bytes) is ∙ piece_rows;
-        room = room;
-      }
+  -- all of them
+  pub appended_all : (now : S) (rest piece : List ℕ) (written : ℕ) → rest ≡ [] → (so-far : Appended stands_for faults format start now samples rest held piece before written) → so-far.front ≡ samples
+  appended_all now rest piece written none so-far = sym (append-nil so-far.front) ∙ (ap (λ (xs : List ℕ). so-far.front ++ xs) (sym none) ∙ so-far.parts)
 
-      -- the piece was written
-      pub pieces_sent : (new : S) (held : List ℕ) (total : ℕ) → held ≡ piece ++ pixels_of format samples → Writes {T = ℕ} stands_for faults first new (so-far.sent ++ held) (λ n. n) (Ok total) → InPieces stands_for faults first new heads [] total format P rect (row + 1)
-      pieces_sent new held total is w = record {
-        sent = so-far.sent ++ held;
-        writes = w;
-        rows = append-nil (so-far.sent ++ held) ∙ (ap (λ (bytes : List ℕ). so-far.sent ++ bytes) is ∙ piece_rows);
-        room = omega arith;
-      }
+  module _ (now : S) (rest piece : List ℕ) (written : ℕ) (so-far : Appended stands_for faults format start now samples rest held piece before written)
+      (row below pushed : List ℕ) (cut : rest ≡ row ++ below) (is : pushed ≡ piece ++ pixels_of format row) where
+    -- a row more
+    next_parts : (so-far.front ++ row) ++ below ≡ samples
+    next_parts = append_assoc so-far.front row below ∙ (ap (λ (xs : List ℕ). so-far.front ++ xs) (sym cut) ∙ so-far.parts)
 
-      -- writing it failed
-      pub pieces_stop : (new : S) (held : List ℕ) (fault : WriteFault) → held ≡ piece ++ pixels_of format samples → Writes {T = ℕ} stands_for faults first new (so-far.sent ++ held) (λ n. n) (Err fault) → Writes {T = ℕ} stands_for faults first new (heads ++ pixels_of format (crop P rect).samples) (λ n. n) (Err fault)
-      pieces_stop new held fault is w =
-          let front = rows_front format P rect (row + 1 - rect.top) in
-          let whole : (so-far.sent ++ held) ++ front.0 ≡ heads ++ pixels_of format (crop P rect).samples =
-          ap (λ (bytes : List ℕ). bytes ++ front.0) (ap (λ (bytes : List ℕ). so-far.sent ++ bytes) is ∙ piece_rows)
-          ∙ (append_assoc heads (rows_of format P rect (row + 1 - rect.top)) front.0 ∙ ap (λ (bytes : List ℕ). heads ++ bytes) (sym front.1)) in
-          writes_same stands_for faults first new ((so-far.sent ++ held) ++ front.0) (heads ++ pixels_of format (crop P rect).samples) (λ n. n) (Err fault) whole
-          (writes_stops stands_for faults first new (so-far.sent ++ held) front.0 (λ n. n) (λ n. n) fault w)
+    next_pixels : (all : List ℕ) → (all ++ pixels_of format so-far.front) ++ pixels_of format row ≡ all ++ pixels_of format (so-far.front ++ row)
+    next_pixels all =
+        append_assoc all (pixels_of format so-far.front) (pixels_of format row)
+        ∙ ap (λ (bytes : List ℕ). all ++ bytes) (sym (pixels_of-append format so-far.front row))
 
-    -- after the last row
-    pub pieces_end : (new : S) (result : Result ℕ WriteFault) → row ≡ rect.bottom → Writes stands_for faults first new (so-far.sent ++ piece) (λ n. n) result → Writes stands_for faults first new (heads ++ pixels_of format (crop P rect).samples) (λ n. n) result
-    pieces_end new result last w =
-        let all : row - rect.top ≡ rect.bottom - rect.top = ap (λ n. n - rect.top) last in
-        writes_same stands_for faults first new (so-far.sent ++ piece) (heads ++ pixels_of format (crop P rect).samples) (λ n. n) result
-        (so-far.rows ∙ ap (λ (bytes : List ℕ). heads ++ bytes) (ap (rows_of format P rect) all ∙ rows_all format P rect)) w
+    all_pixels : (all : List ℕ) → ((all ++ pixels_of format so-far.front) ++ pixels_of format row) ++ pixels_of format below ≡ all ++ pixels_of format samples
+    all_pixels all =
+        ap (λ (bytes : List ℕ). bytes ++ pixels_of format below) (next_pixels all)
+        ∙ (append_assoc all (pixels_of format (so-far.front ++ row)) (pixels_of format below)
+        ∙ ap (λ (bytes : List ℕ). all ++ bytes) (sym (pixels_of-append format (so-far.front ++ row) below) ∙ ap (pixels_of format) next_parts))
+
+    -- the piece has room
+    pub appended_held : length pushed < 65536 → length pushed ≡ length piece + 2 * length row → Appended stands_for faults format start now samples below held pushed before written
+    appended_held room long = record {
+      front = so-far.front ++ row;
+      parts = next_parts;
+      pieces = λ first all h.
+          pieces_same stands_for faults first now _ _ pushed written (next_pixels all)
+          (pieces_held stands_for faults first now (all ++ pixels_of format so-far.front) piece written (so-far.pieces first all h) (pixels_of format row) pushed is);
+      room = room;
+      number = omega (arith, so-far.number, long, length-append so-far.front row);
+    }
+
+    -- it was written
+    pub appended_sent : (new : S) (total : ℕ) → total ≡ written + length pushed → length pushed ≡ length piece + 2 * length row
+        → ((first : S) (sent : List ℕ) → Writes {T = ℕ} stands_for faults first now sent (λ n. n) (Ok written) → Writes {T = ℕ} stands_for faults first new (sent ++ pushed) (λ n. n) (Ok total))
+        → Appended stands_for faults format start new samples below held [] before total
+    appended_sent new total sum long writes = record {
+      front = so-far.front ++ row;
+      parts = next_parts;
+      pieces = λ first all h.
+          let so = so-far.pieces first all h in
+          pieces_same stands_for faults first new _ _ [] total (next_pixels all)
+          (pieces_sent stands_for faults first now (all ++ pixels_of format so-far.front) piece written so (pixels_of format row) pushed is new total (writes first so.sent so.writes));
+      room = omega arith;
+      number = omega (arith, so-far.number, sum, long, length-append so-far.front row);
+    }
+
+    -- writing it stopped
+    pub appended_stops : (new : S) (stop : Stop)
+        → ((first : S) (sent : List ℕ) → Writes {T = ℕ} stands_for faults first now sent (λ n. n) (Ok written) → Writes {T = ℕ} stands_for faults first new (sent ++ pushed) (λ n. n) (Err stop))
+        → (first : S) (all : List ℕ) → InPieces stands_for faults first start all held before → Writes {T = ℕ} stands_for faults first new (all ++ pixels_of format samples) (λ n. n) (Err stop)
+    appended_stops new stop writes first all h =
+        let so = so-far.pieces first all h in
+        writes_same stands_for faults first new _ _ (λ n. n) (Err stop) (all_pixels all)
+        (pieces_stop stands_for faults first now (all ++ pixels_of format so-far.front) piece written so (pixels_of format row) pushed is new (pixels_of format below) stop (writes first so.sent so.writes))

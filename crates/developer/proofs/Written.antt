@@ -3,9 +3,11 @@ use Rattle.std.proofs.Common.{◌≡◌, ℕ, ◌+◌, List, [], ◌++◌, lengt
 use Rattle.std.proofs.lemmas.List.{take-append-le}
 use Rattle.std.proofs.Math.Seq.{take-append-add}
 use Rattle.raw_io.specs.Outside.{Appends}
-use Rattle.raw_io.specs.declared.whole.WriteFault.{WriteFault}
-use Rattle.developer.specs.Writes.{Writes}
-use Rattle.developer.proofs.Outsides.{appends_nothing, appends_then, rises_last}
+use Rattle.developer.specs.Writes.{ByCause, Writes}
+use Rattle.developer.specs.declared.writing.Cause.{Cause}
+use Rattle.developer.specs.declared.writing.Cause.TheVariants.{Memory}
+use Rattle.developer.specs.declared.writing.Stop.{Stop}
+use Rattle.developer.proofs.Outsides.{appends_nothing, appends_then}
 
 module _ {S : Type 0} (stands_for : S → List ℕ → Type 0) (faults : S → ℕ) where
   -- nothing was written
@@ -21,7 +23,7 @@ module _ {S : Type 0} (stands_for : S → List ℕ → Type 0) (faults : S → �
   }
 
   -- the same bytes
-  pub writes_same : {T : Type 0} (old new : S) (bytes others : List ℕ) (length_of : T → ℕ) (result : Result T WriteFault) → bytes ≡ others → Writes stands_for faults old new bytes length_of result → Writes stands_for faults old new others length_of result
+  pub writes_same : {T : Type 0} (old new : S) (bytes others : List ℕ) (length_of : T → ℕ) (result : Result T Stop) → bytes ≡ others → Writes stands_for faults old new bytes length_of result → Writes stands_for faults old new others length_of result
   writes_same old new bytes others length_of result e w = subst (λ (b : List ℕ). Writes stands_for faults old new b length_of result) e w
 
   -- the same with another value of the same number
@@ -29,12 +31,24 @@ module _ {S : Type 0} (stands_for : S → List ℕ → Type 0) (faults : S → �
   writes_value old new bytes f g value other same w =
       record { whole = w.whole; number = same ∙ w.number; front = tt; within = tt; calm = w.calm; counts = w.counts; cause = tt }
 
-  -- a fault in a prefix is one in the whole
-  pub writes_stops : {T U : Type 0} (old new : S) (bytes more : List ℕ) (length_of : T → ℕ) (other : U → ℕ) (fault : WriteFault) → Writes stands_for faults old new bytes length_of (Err fault) → Writes stands_for faults old new (bytes ++ more) other (Err fault)
-  writes_stops old new bytes more length_of other fault w = record {
+  -- memory ran out before a byte was written
+  pub writes_no_memory : {T : Type 0} (sink : S) (bytes : List ℕ) (length_of : T → ℕ) → Writes stands_for faults sink sink bytes length_of (Err (record { written = 0; cause = Memory }))
+  writes_no_memory sink bytes length_of = record {
     whole = tt;
     number = tt;
-    front = subst (Appends stands_for old new) (sym (take-append-le fault.written bytes more w.within)) w.front;
+    front = appends_nothing stands_for sink;
+    within = omega arith;
+    calm = tt;
+    counts = omega arith;
+    cause = refl;
+  }
+
+  -- a stop in a prefix is one in the whole
+  pub writes_stops : {T U : Type 0} (old new : S) (bytes more : List ℕ) (length_of : T → ℕ) (other : U → ℕ) (stop : Stop) → Writes stands_for faults old new bytes length_of (Err stop) → Writes stands_for faults old new (bytes ++ more) other (Err stop)
+  writes_stops old new bytes more length_of other stop w = record {
+    whole = tt;
+    number = tt;
+    front = subst (Appends stands_for old new) (sym (take-append-le stop.written bytes more w.within)) w.front;
     within = omega (arith, length-append bytes more, w.within);
     calm = tt;
     counts = w.counts;
@@ -54,18 +68,25 @@ module _ {S : Type 0} (stands_for : S → List ℕ → Type 0) (faults : S → �
     cause = tt;
   }
 
-  -- a run, and then a fault in another
-  pub writes_then_stops : {T U V : Type 0} (old mid new : S) (first second : List ℕ) (f : T → ℕ) (g : U → ℕ) (h : V → ℕ) (value : T) (fault behind : WriteFault) → behind.written ≡ f value + fault.written
-      → Writes stands_for faults old mid first f (Ok value) → Writes stands_for faults mid new second g (Err fault) → Writes stands_for faults old new (first ++ second) h (Err behind)
-  writes_then_stops old mid new first second f g h value fault behind sum a b =
-      let at : behind.written ≡ length first + fault.written = omega (arith, sum, a.number) in
+  -- a run, and then a stop in another
+  pub writes_then_stops : {T U V : Type 0} (old mid new : S) (first second : List ℕ) (f : T → ℕ) (g : U → ℕ) (h : V → ℕ) (value : T) (stop behind : Stop) → behind.written ≡ f value + stop.written → behind.cause ≡ stop.cause
+      → Writes stands_for faults old mid first f (Ok value) → Writes stands_for faults mid new second g (Err stop) → Writes stands_for faults old new (first ++ second) h (Err behind)
+  writes_then_stops old mid new first second f g h value stop behind sum same a b =
+      let at : behind.written ≡ length first + stop.written = omega (arith, sum, a.number) in
       record {
         whole = tt;
         number = tt;
-        front = subst (Appends stands_for old new) (sym (ap (λ n. take n (first ++ second)) at ∙ take-append-add first second fault.written))
-            (appends_then stands_for old mid new first (take fault.written second) a.whole b.front);
+        front = subst (Appends stands_for old new) (sym (ap (λ n. take n (first ++ second)) at ∙ take-append-add first second stop.written))
+            (appends_then stands_for old mid new first (take stop.written second) a.whole b.front);
         within = omega (arith, at, b.within, length-append first second);
         calm = tt;
         counts = omega (arith, a.counts, b.counts);
-        cause = rises_last (faults old) (faults mid) (faults new) a.counts b.cause;
+        cause = subst (λ (cause : Cause). ByCause cause (faults old) (faults new)) (sym same)
+            (subst (λ (before : ℕ). ByCause stop.cause before (faults new)) a.calm b.cause);
       }
+
+  -- a run after which memory ran out
+  pub writes_then_no_memory : {T V : Type 0} (old mid : S) (first second : List ℕ) (f : T → ℕ) (h : V → ℕ) (value : T) (behind : Stop) → behind.written ≡ f value → behind.cause ≡ Memory
+      → Writes stands_for faults old mid first f (Ok value) → Writes stands_for faults old mid (first ++ second) h (Err behind)
+  writes_then_no_memory old mid first second f h value behind sum same a =
+      writes_then_stops old mid mid first second f (λ (n : ℕ). n) h value (record { written = 0; cause = Memory }) behind (omega (arith, sum)) same a (writes_no_memory mid second (λ (n : ℕ). n))

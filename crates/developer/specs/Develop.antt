@@ -1,14 +1,19 @@
 -- The whole development: each stage once, over the whole plane.
-use Rattle.std.specs.Prelude.{◌≡◌, ℕ, ◌≤◌, List, unwrap_or}
+use Rattle.std.specs.Prelude.{◌≡◌, ℕ, ◌<◌, ◌≤◌, List, Ok, unwrap_or}
 use Rattle.plane_view.specs.Plane.{Plane, IsWhole}
 use Rattle.plane_view.specs.declared.Rect.{Rect}
+use Rattle.dng_tags.specs.Facts.{IsFrame}
 use Rattle.dng_tags.specs.Raw.{raw}
 use Rattle.dng_tags.specs.declared.record.Frame.{Frame}
-use Rattle.stage_chain.specs.Chains.{whole_of}
+use Rattle.stage_core.specs.Stages.{shape_of}
+use Rattle.stage_chain.specs.Chains.{TakeInTurn, whole_of}
+use Rattle.region_session.specs.Sessions.{Opened as Session}
+use Rattle.region_session.specs.Stacks.{last_shape}
 use Rattle.colour_matrix.specs.Matrices.{camera_matrix}
+use Rattle.dev_settings.specs.Ranges.{SettingsInRange}
 use Rattle.dev_settings.specs.declared.settings.Settings.{Settings}
-use Rattle.dev_stages.specs.Members.{apply_of}
-use Rattle.dev_stages.specs.Plans.{chosen_matrix, stages_with}
+use Rattle.dev_stages.specs.Members.{apply_of, shaped_of, takes_of}
+use Rattle.dev_stages.specs.Plans.{chosen_matrix, planned, stages_with}
 use Rattle.dev_stages.specs.declared.stage.DevStage.{DevStage}
 
 -- the stages of a frame under settings; without the forward matrix that they name, by no matrix
@@ -27,9 +32,31 @@ pub record IsDeveloped (P : Plane) : Type 0 where
   pub planes : P.planes ≡ 3
   pub whole : IsWhole P
 
--- the edges of a rectangle are in order, and lie within the plane
+-- the rectangle has a pixel, and lies within the plane
 pub record IsWithin (rect : Rect) (P : Plane) : Type 0 where
-  pub rows : rect.top ≤ rect.bottom
+  pub rows : rect.top < rect.bottom
   pub bottom : rect.bottom ≤ P.rows
-  pub cols : rect.left ≤ rect.right
+  pub cols : rect.left < rect.right
   pub right : rect.right ≤ P.cols
+
+-- stages that take a plane one after the other, and make a developed plane of it
+pub record Develops (P : Plane) (stages : List DevStage) : Type 0 where
+  pub takes : TakeInTurn takes_of shaped_of stages (shape_of P)
+  pub shape : shape_of (whole_of apply_of stages P) ≡ last_shape shaped_of (shape_of P) stages
+  pub developed : IsDeveloped (whole_of apply_of stages P)
+
+-- a session has its base's plane, its stages and its side as before
+pub record StagesStay (old new : Session DevStage) : Type 0 where
+  pub plane : new.plane ≡ old.plane
+  pub stages : new.stages ≡ old.stages
+  pub side : new.side ≡ old.side
+
+-- what holds of an opened frame: it was read from these bytes, and the session has its raw plane, and the stages that the
+-- settings give it
+pub record IsUnder (bytes : List ℕ) (frame : Frame) (settings : Settings) (session : Session DevStage) : Type 0 where
+  pub read : IsFrame frame bytes
+  pub in_range : SettingsInRange settings
+  pub plane : session.plane ≡ raw bytes frame
+  pub stages : planned frame settings ≡ Ok session.stages
+  pub least : 16 ≤ session.side
+  pub most : session.side ≤ 512

@@ -10,5 +10,6 @@ pub mod Answers
 pub mod Replies
 pub mod Transcript
 pub mod Writes
+pub mod Pieces
 pub mod Opens
 pub mod Run

@@ -6,10 +6,7 @@ use Rattle.raw_io.specs.declared.whole.ReadFault.TheVariants as reads
 use Rattle.tag_rules.specs.declared.faults.FrameFault.{FrameFault}
 use Rattle.tag_rules.specs.declared.faults.FrameFault.TheVariants as frames
 use Rattle.dng_tags.specs.Raw.{undecoded}
-use Rattle.dev_settings.specs.declared.settings.Settings.{Settings}
-use Rattle.plane_view.specs.Plane.{Plane}
-use Rattle.developer.specs.Develop.{develop}
-use Rattle.developer.specs.Opening.{FileUnread, FrameFile, Opened, opened_by, opened_for, opened_named, refused_frame, refused_settings}
+use Rattle.developer.specs.Opening.{FileUnread, FrameFile, Opened, opened_for, opened_named, refused_frame, refused_settings}
 use Rattle.developer.specs.Planning.{seen}
 use Rattle.developer.specs.Words.{Options}
 use Rattle.developer.specs.declared.settings.SettingsStop.{SettingsStop}
@@ -45,12 +42,11 @@ OpensFiles told before after chosen (Err (openings.Settings refusal)) = IfSome (
 OpensFiles told before after chosen (Err openings.Unread) = FileUnread told before after chosen
 OpensFiles told before after chosen (Err openings.Memory) = ⊤
 
--- of a frame whose record was read, with its settings and the plane developed under them
-abbrev pub Opens : (told : List ℕ → Option (List ℕ)) → (before after : List ℕ → ℕ) → FrameFile → Option (List ℕ) → Result (Settings × Plane) OpenFault → Type 0
-Opens told before after file name (Ok answer) =
+-- of a frame whose record was read, with the name of its settings file
+abbrev pub Opens : (told : List ℕ → Option (List ℕ)) → (before after : List ℕ → ℕ) → FrameFile → Option (List ℕ) → Result Opened OpenFault → Type 0
+Opens told before after file name (Ok frame) =
     (undecoded file.bytes file.frame ≡ None)
-    × IfSome (opened_named file name told) (λ o. o ≡ opened_by file (Ok answer.0))
-    × (answer.1 ≡ develop file.bytes file.frame answer.0)
+    × IfSome (opened_named file name told) (λ o. o ≡ Ok frame)
 Opens told before after file name (Err (openings.Frame fault)) = undecoded file.bytes file.frame ≡ Some fault
 Opens told before after file name (Err (openings.Settings refusal)) =
     (undecoded file.bytes file.frame ≡ None)

@@ -1,22 +1,54 @@
--- The answer to a line of the script. All of it is this project's own.
-use Rattle.std.specs.Prelude.{ℕ, ◌+◌, ◌^◌, nat_le, ◌&&◌, if◌then◌else◌, List, ◌++◌, length, Option, None, Some, Result, Ok, codes}
+-- The answer to a line of the script, over an opened frame under the settings in force. All of it is this project's own.
+use Rattle.std.specs.Prelude.{ℕ, ◌+◌, ◌^◌, nat_le, nat_lt, ◌&&◌, if◌then◌else◌, List, ◌++◌, length, Option, None, Some, Result, Ok, Err, codes}
 use Rattle.plane_view.specs.Plane.{Plane, crop}
 use Rattle.plane_view.specs.declared.Rect.{Rect}
 use Rattle.dev_settings.specs.Commands.{command_of}
+use Rattle.dev_settings.specs.Settings.{changed}
 use Rattle.dev_settings.specs.declared.format.Format.{Format}
 use Rattle.dev_settings.specs.declared.command.Command.{Command}
-use Rattle.dev_settings.specs.declared.command.Command.TheVariants.{Region}
+use Rattle.dev_settings.specs.declared.command.Command.TheVariants.{Region, Set, Stat}
 use Rattle.dev_settings.specs.declared.command.LineFault.{LineFault}
+use Rattle.dev_settings.specs.declared.command.LineFault.TheVariants as lines
+use Rattle.dev_settings.specs.declared.settings.Change.{Change}
+use Rattle.dev_settings.specs.declared.settings.Settings.{Settings}
 use Rattle.dev_settings.specs.Lines.{line_text_of}
+use Rattle.dev_stages.specs.Plans.{planned}
+use Rattle.dev_stages.specs.declared.fault.PlanFault.{PlanFault}
+use Rattle.dev_stages.specs.declared.fault.PlanFault.TheVariants as plans
+use Rattle.dev_stages.specs.declared.stage.DevStage.{DevStage}
 use Rattle.image_out.specs.Image.{image_of, reply_head_of}
 use Rattle.developer.specs.Answers.{Answer}
 use Rattle.developer.specs.Develop.{develop}
 use Rattle.developer.specs.Opening.{Opened}
-use Rattle.developer.specs.declared.answer.State.{State}
 
 -- the answer to each line that nothing answers yet
 abbrev pub no_yet : List ℕ
 no_yet = codes "no yet\n"
+
+-- of a change that was made
+abbrev pub done : List ℕ
+done = codes "ok\n"
+
+-- of a region that isn't one of the plane
+abbrev pub no_region : List ℕ
+no_region = codes "no region\n"
+
+-- of a line with more than 4,096 bytes
+abbrev pub no_line : List ℕ
+no_line = codes "no line\n"
+
+-- of a line that is no command
+abbrev pub no_command : LineFault → List ℕ
+no_command lines.Word = codes "no word\n"
+no_command lines.Key = codes "no key\n"
+no_command lines.Value = codes "no value\n"
+no_command lines.Region = no_region
+
+-- of a change after which the frame has no stages. No definition answers want of memory
+abbrev pub no_stages : PlanFault → List ℕ
+no_stages plans.Matrix = codes "no matrix\n"
+no_stages plans.Levels = codes "no levels\n"
+no_stages plans.Memory = codes "no levels\n"
 
 -- the crop of a plane to a rectangle, as an image
 abbrev pub image : Plane → Rect → Format → List ℕ
@@ -30,33 +62,51 @@ image_reply bytes = reply_head_of (length bytes) ++ bytes
 abbrev pub region_rect : (x y w h : ℕ) → Rect
 region_rect x y w h = record { top = y; left = x; bottom = y + h; right = x + w }
 
--- that rectangle, where it lies in the plane
+-- that rectangle, where it has a pixel and lies in the plane
 abbrev pub part_of : Plane → (x y w h : ℕ) → Option Rect
-part_of P x y w h = if nat_le (x + w) P.cols && nat_le (y + h) P.rows then Some (region_rect x y w h) else None
+part_of P x y w h =
+    if nat_lt 0 w && nat_lt 0 h && nat_le (x + w) P.cols && nat_le (y + h) P.rows
+    then Some (region_rect x y w h) else None
 
 -- the reply to a region that lies in the plane, or not
 unfoldable pub region_reply : Plane → Format → Option Rect → List ℕ
 region_reply P format (Some rect) = image_reply (image P rect format)
-region_reply P format None = no_yet
+region_reply P format None = no_region
 
--- the reply to a command, over the developed plane
-unfoldable pub command_reply : Plane → Result Command LineFault → List ℕ
-command_reply P (Ok (Region x y w h format)) = region_reply P format (part_of P x y w h)
-command_reply P _ = no_yet
+-- the plane that an opened frame is developed to
+abbrev pub developed : Opened → Plane
+developed frame = develop frame.bytes frame.frame frame.settings
 
--- the reply to a line, by its text
-unfoldable pub line_reply : Plane → Option (List ℕ) → List ℕ
-line_reply P (Some text) = command_reply P (command_of text)
-line_reply P None = no_yet
+-- these bytes, and nothing changes
+abbrev pub replied : Opened → List ℕ → Answer Opened
+replied frame bytes = record { bytes = bytes; state = frame }
 
--- what the lines before the first have changed: nothing
-abbrev pub first_state : State
-first_state = record {}
+-- of settings after a change, by the stages of the frame under them: the change is made where there are such
+abbrev pub set_by : Opened → Settings → Result (List DevStage) PlanFault → Answer Opened
+set_by frame after (Ok stages) = record { bytes = done; state = record frame { settings = after } }
+set_by frame after (Err fault) = replied frame (no_stages fault)
 
--- the answer to a line of the script, over an opened frame
-unfoldable pub answer_of : Opened → State → List ℕ → Answer State
-answer_of frame state line =
-    record { bytes = line_reply (develop frame.bytes frame.frame frame.settings) (line_text_of line); state = state }
+-- of a change
+abbrev pub set_answer : Opened → Change → Answer Opened
+set_answer frame change =
+    set_by frame (changed change frame.settings) (planned frame.frame (changed change frame.settings))
+
+-- the answer to a command
+unfoldable pub command_answer : Opened → Result Command LineFault → Answer Opened
+command_answer frame (Ok (Region x y w h format)) =
+    replied frame (region_reply (developed frame) format (part_of (developed frame) x y w h))
+command_answer frame (Ok (Set change)) = set_answer frame change
+command_answer frame (Ok Stat) = replied frame no_yet
+command_answer frame (Err fault) = replied frame (no_command fault)
+
+-- the answer to a line, by its text
+unfoldable pub line_answer : Opened → Option (List ℕ) → Answer Opened
+line_answer frame (Some text) = command_answer frame (command_of text)
+line_answer frame None = replied frame no_line
+
+-- the answer to a line of the script, and the frame with the settings after it
+unfoldable pub answer_of : Opened → List ℕ → Answer Opened
+answer_of frame line = line_answer frame (line_text_of line)
 
 -- no answer has more bytes
 abbrev pub max_answer : ℕ

@@ -9,6 +9,8 @@ use Rattle.developer.specs.declared.status.Ending.TheVariants as endings
 use Rattle.developer.specs.declared.status.Status.{Status}
 use Rattle.developer.specs.declared.status.Status.TheVariants.{Done, Usage, ReadFault, WriteFault, Memory, ScriptTooLong}
 use Rattle.developer.specs.declared.status.Status.TheVariants as statuses
+use Rattle.developer.specs.declared.writing.Cause.{Cause}
+use Rattle.developer.specs.declared.writing.Cause.TheVariants as causes
 
 -- the outside of a run at one moment
 pub record Outside : Type 0 where
@@ -94,6 +96,11 @@ pub record Promises (call : Call) (status : Status) : Type 0 where
   pub ends : Ends call status
   pub completes : Completes call status
   pub stays : Stays call
+
+-- how a run ends whose answer is cut short
+abbrev pub ending_of : Cause → Ending
+ending_of causes.Write = endings.WriteFault
+ending_of causes.Memory = endings.Memory
 
 -- the status of a run that ended early
 abbrev pub status_of : Ending → Status

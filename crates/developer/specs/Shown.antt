@@ -3,7 +3,7 @@ use Rattle.std.specs.Prelude.{Option, option_map}
 use Rattle.developer.specs.CommandLine.{Texts}
 use Rattle.developer.specs.Words as words
 use Rattle.developer.specs.declared.words.Named.{Named}
-use Rattle.developer.specs.declared.words.Options.{Options}
+use Rattle.developer.specs.declared.options.Options.{Options}
 
 -- what the words name
 abbrev pub named_view : Option Named → Option Texts

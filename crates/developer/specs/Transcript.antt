@@ -4,16 +4,16 @@ use Rattle.std.specs.Prelude.{ℕ, ◌^◌, nat_lt, if◌then◌else◌, List, l
 use Rattle.dev_settings.specs.Lines.{all_lines, lines_of}
 use Rattle.developer.specs.Answers.{answers}
 use Rattle.developer.specs.Opening.{Opened, Opening, Transcript, opened}
-use Rattle.developer.specs.Replies.{answer_of, first_state}
+use Rattle.developer.specs.Replies.{answer_of}
 use Rattle.developer.specs.declared.status.Status.TheVariants.{Done, ScriptTooLong}
 
 -- the longest script
 abbrev pub max_script : ℕ
 max_script = 2 ^ 24
 
--- the answers to lines, from the first on
+-- the answers to lines, each over the frame under the settings after those before it
 abbrev pub answers_of : Opened → List (List ℕ) → List ℕ
-answers_of frame lines = (answers (answer_of frame) first_state lines).bytes
+answers_of frame lines = (answers answer_of frame lines).bytes
 
 -- over an opened frame: the answers to the lines of the script; where it is too long, to the complete ones of its prefix
 unfoldable pub by_script : Opened → List ℕ → Transcript

@@ -5,9 +5,11 @@
 #![tactic(auto)]
 
 mod answer;
-mod develop;
+mod opened;
 mod opening;
+mod options;
 mod program;
+mod regions;
 mod script;
 mod settings;
 mod status;

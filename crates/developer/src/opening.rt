@@ -1,8 +1,7 @@
-//! Opening a frame: the words, the frame's file, its record and its developed plane.
+//! Opening a frame: the words, the frame's file, its record and its settings.
 
 ghost use Rattle.std.specs.Prelude.{◌≡◌, ℕ, ◌≤◌, List, [], Option, Some, map, option_map, string_bytes, IfErr, IfOk, IfSome, OnOk, Ok};
 ghost use Rattle.raw_io.specs.Outside.{Appends};
-ghost use Rattle.developer.specs.Develop.{develop};
 ghost use Rattle.developer.specs.Opening.{opened};
 ghost use Rattle.dng_tags.specs.Facts.{IsFrame};
 ghost use Rattle.developer.specs.Opens.{Opens, OpensFiles, Refuses};
@@ -13,42 +12,19 @@ ghost use Rattle.developer.specs.Refusals.{refusal_line};
 ghost use Rattle.developer.specs.Run.{Ends, status_of};
 ghost use Rattle.developer.specs.Words.{Options as Chosen, options};
 
-use crate::develop::Developed;
+use crate::opened::OpenedFrame;
+use crate::options::Options;
 use crate::settings::{SettingsRefusal, SettingsStop, plan_under};
 use crate::status::Ending;
-use crate::words::{Options, read_words};
+use crate::words::read_words;
 use crate::writing::write_bytes;
-use dev_settings::Settings;
 use dng_tags::{Frame, FrameFault, MAX_BYTES, read_frame};
 use frame_segments::Segments;
 use raw_io::{Files, ReadFault, Sink, read_all};
 use std::alloc::{AllocError, Global};
-use std::marker::Model;
 use text_line::Line;
 
 const USAGE_LINE: &[u8] = b"usage: rawdev FRAME [--settings FILE] [--budget SAMPLES] [--cell N]\n";
-
-/// An accepted frame: the bytes of its file, its record, settings, and the plane developed under them. Contracts see the
-/// bytes, the record and the settings.
-#[derive(Drop)]
-pub(crate) struct OpenedFrame {
-    bytes: Vec<u8>,
-    frame: Frame,
-    settings: Settings,
-    plane: Developed,
-}
-
-impl Model for OpenedFrame {
-    ghost use Rattle.std.specs.Prelude.{◌≡◌};
-    ghost use Rattle.developer.specs.Develop.{develop};
-    ghost use Rattle.developer.specs.Opening.{Opened};
-
-    ghost Value = { Opened };
-
-    ghost view = { λ o. record { bytes = o.bytes.items; frame = o.frame; settings = o.settings } };
-
-    ghost invariant = { λ o. o.plane ≡ develop o.bytes.items o.frame o.settings };
-}
 
 /// Why a frame isn't opened.
 #[derive(Debug, Drop)]
@@ -114,54 +90,42 @@ impl From<AllocError> for OpenFault {
     }
 }
 
-/// The settings that a run has by the name of a settings file, or the standard ones without one, and the plane of a frame
-/// that is developed under them. Each segment is decoded before the settings file is read.
-fn develop_under<F: Files>(
+/// Opens a frame that was read from these bytes: decodes each of its segments, and then reads the settings file, where one
+/// is named.
+fn open_frame<'a, F: Files>(
     alloc: Global,
     files: &mut F,
-    bytes: &[u8],
-    frame: &Frame,
-    settings: Option<&str>,
-) -> Result<(Settings, Developed), OpenFault>
-    requires frame { IsFrame frame.now bytes.now }
+    bytes: &'a [u8],
+    frame: Frame,
+    options: &Options<'_>,
+) -> Result<OpenedFrame<'a>, OpenFault>
+    requires frame { IsFrame frame bytes.now }
     ensures told { (other : List ℕ) → F.told files.new other ≡ F.told files.old other }
     ensures counts { (other : List ℕ) → F.faults files.old other ≤ F.faults files.new other }
-    ensures opens { Opens (F.told files.old) (F.faults files.old) (F.faults files.new) (record { bytes = bytes.now; frame = frame.now }) (option_map (λ name. name.now) settings.entry) result }
+    ensures opens { Opens (F.told files.old) (F.faults files.old) (F.faults files.new)
+        (record { bytes = bytes.entry.now; frame = frame }) (option_view options.now).settings result }
 {
-    let mut segments = Segments::open(alloc, bytes, frame)?;
-    let planned = plan_under(alloc, files, settings, frame)?;
-    let plane = Developed::new(alloc, &mut segments, &planned.stages)?;
-    Ok((planned.settings, plane))
+    let segments = Segments::open(alloc, bytes, &frame)?;
+    let planned = plan_under(alloc, files, options.settings, &frame)?;
+    Ok(OpenedFrame::new(alloc, bytes, frame, segments, planned, options.cell)?)
 }
 
-impl OpenedFrame {
-    /// Reads and develops the frame that the words ask for, under the settings that they ask for.
-    fn read<F: Files>(
-        alloc: Global,
-        files: &mut F,
-        options: &Options<'_>,
-    ) -> Result<OpenedFrame, OpenFault>
-        ensures told { (other : List ℕ) → F.told files.new other ≡ F.told files.old other }
-        ensures counts { (other : List ℕ) → F.faults files.old other ≤ F.faults files.new other }
-        ensures opens { OpensFiles (F.told files.old) (F.faults files.old) (F.faults files.new) (option_view options.now) result }
-    {
-        let bytes = read_all(alloc, files, options.frame, MAX_BYTES)?;
-        let frame = read_frame(alloc, &bytes)?;
-        let (settings, plane) = develop_under(alloc, files, &bytes, &frame, options.settings)?;
-        Ok(OpenedFrame {
-            bytes,
-            frame,
-            settings,
-            plane,
-        })
-    }
-
-    /// The developed plane.
-    pub(crate) fn plane(&self) -> &Developed
-        ensures { result.now ≡ develop self.now.bytes self.now.frame self.now.settings }
-    {
-        &self.plane
-    }
+/// Reads and opens the frame that the words ask for, under the settings that they ask for. The bytes of its file stay in
+/// `memory`.
+fn read_frame_file<'a, F: Files>(
+    alloc: Global,
+    files: &mut F,
+    options: &Options<'_>,
+    memory: &'a mut Vec<u8>,
+) -> Result<OpenedFrame<'a>, OpenFault>
+    ensures told { (other : List ℕ) → F.told files.new other ≡ F.told files.old other }
+    ensures counts { (other : List ℕ) → F.faults files.old other ≤ F.faults files.new other }
+    ensures opens { OpensFiles (F.told files.old) (F.faults files.old) (F.faults files.new) (option_view options.now) result }
+{
+    *memory = read_all(alloc, files, options.frame, MAX_BYTES)?;
+    let bytes: &'a [u8] = memory;
+    let frame = read_frame(alloc, bytes)?;
+    open_frame(alloc, files, bytes, frame, options)
 }
 
 /// Writes the line of a refusal, and gives how the run ends then.
@@ -174,13 +138,15 @@ fn refuse<O: Sink>(line: &[u8], ending: Ending, out: &mut O) -> Ending
     }
 }
 
-/// Opens the frame that the words ask for, or writes the line of the refusal.
-pub(crate) fn open<F: Files, O: Sink>(
+/// Opens the frame that the words ask for, or writes the line of the refusal. The bytes of the frame's file stay in
+/// `memory`.
+pub(crate) fn open<'a, F: Files, O: Sink>(
     alloc: Global,
     words: &[String],
     files: &mut F,
     out: &mut O,
-) -> Result<OpenedFrame, Ending>
+    memory: &'a mut Vec<u8>,
+) -> Result<OpenedFrame<'a>, Ending>
     ensures told { (name : List ℕ) → F.told files.new name ≡ F.told files.old name }
     ensures files { (name : List ℕ) → F.faults files.old name ≤ F.faults files.new name }
     ensures sink { O.faults out.old ≤ O.faults out.new }
@@ -214,7 +180,7 @@ pub(crate) fn open<F: Files, O: Sink>(
         Ok(None) => return Err(refuse(USAGE_LINE, Ending::Usage, out)),
         Err(_) => return Err(Ending::Memory),
     };
-    match OpenedFrame::read(alloc, files, &options) {
+    match read_frame_file(alloc, files, &options, memory) {
         Ok(frame) => Ok(frame),
         Err(OpenFault::Frame(fault)) => Err(refuse_frame(fault, out)),
         Err(OpenFault::Settings(refusal)) => Err(refuse_settings(&refusal, out)),

@@ -41,8 +41,9 @@ pub fn run<F: Files, C: Source, O: Sink>(
           taken = taken;
         }) result }
 {
-    match open(alloc, words, files, out) {
-        Ok(frame) => match run_script(alloc, &frame, script, out) {
+    let mut memory = Vec::new(alloc);
+    match open(alloc, words, files, out, &mut memory) {
+        Ok(mut frame) => match run_script(alloc, &mut frame, script, out) {
             Ok(()) => Status::Done,
             Err(ending) => ending.status(),
         },

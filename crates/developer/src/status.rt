@@ -3,6 +3,7 @@
 ghost use Rattle.std.specs.Prelude.{◌≡◌};
 ghost use Rattle.developer.specs.Run.{status_number, status_of};
 
+use crate::writing::{Cause, Stop};
 use raw_io::WriteFault;
 use std::alloc::AllocError;
 
@@ -98,5 +99,18 @@ impl From<AllocError> for Ending {
 
     fn from(_: AllocError) -> Self {
         Ending::Memory
+    }
+}
+
+impl From<Stop> for Ending {
+    ghost use Rattle.developer.specs.Run.{ending_of};
+
+    ghost from_gives = { λ stop e. e ≡ ending_of stop.cause };
+
+    fn from(stop: Stop) -> Self {
+        match stop.cause {
+            Cause::Write => Ending::WriteFault,
+            Cause::Memory => Ending::Memory,
+        }
     }
 }

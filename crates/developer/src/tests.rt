@@ -11,6 +11,7 @@ use test_frames::{TestFrame, bright_red, flat, patch, plain};
 use tiff_dirs::Order;
 use tiff_write::{Field, Place};
 
+mod lines;
 mod opcodes;
 mod settings;
 
@@ -51,37 +52,6 @@ fn bright_samples() -> &'static [u8] {
 fn bright_pixels() -> &'static [u8] {
     b"image 31\nP6\n3 1\n65535\n\x06\x40\x03\x20\x04\xB0\x03\x20\x00\x00\x00\x00\x00\x00\x00\x00\x00\x00\
       image 19\nP6\n1 1\n65535\n\x01\x90\x00\x00\x00\x00"
-}
-
-fn accepted_lines() -> [&'static [u8]; 5] {
-    [
-        b"region 0 0 1 1 ppm",
-        b"  region  0 0   1 1 ppm  \n",
-        b"region 0 0 1 1 ppm\r\n",
-        b"region 0000000003 3 1 1 ppm\n",
-        b"region 3 3 1 1 ppm\n",
-    ]
-}
-
-fn other_lines() -> [&'static [u8]; 16] {
-    [
-        b"region 0 0 1 1 ppm\r\r\n",
-        b"region 00000000003 3 1 1 ppm\n",
-        b"region 4 0 1 1 ppm\n",
-        b"region 0 4 1 1 ppm\n",
-        b"region 1 0 4 1 ppm\n",
-        b"region 0 1 1 4 ppm\n",
-        b"region 4294967295 0 1 1 ppm\n",
-        b"region 4294967296 0 1 1 ppm\n",
-        b"region 0 0 0 1 ppm\n",
-        b"region 0 0 1 0 ppm\n",
-        b"region 0 0 1 1 TIFF\n",
-        b"region 0 0 1 1\n",
-        b"region 0 0 1 1 ppm ppm\n",
-        b"region\t0 0 1 1 ppm\n",
-        b"stat\n",
-        b"\n",
-    ]
 }
 
 fn refused_words() -> [&'static [&'static str]; 24] {
@@ -515,53 +485,6 @@ fn words_are_refused(rt: HostRuntime) -> Result<(), Fail> {
         assert_eq!(rt; outside.run(alloc, words)?, Status::Usage);
         assert_eq!(rt; outside.out.bytes(), USAGE_LINE);
     }
-    Ok(())
-}
-
-#[test]
-fn lines(rt: HostRuntime) -> Result<(), Fail> {
-    let alloc = rt.alloc();
-    let file = flat_file(alloc)?;
-    for script in accepted_lines() {
-        let (status, bytes) = ran(alloc, &file, script)?;
-        assert_eq!(rt; status, Status::Done);
-        assert_eq!(rt; bytes.as_slice(), one_pixel(), "{script:?}");
-    }
-    for script in other_lines() {
-        let (status, bytes) = ran(alloc, &file, script)?;
-        assert_eq!(rt; status, Status::Done);
-        assert_eq!(rt; bytes.as_slice(), b"no yet\n".as_slice(), "{script:?}");
-    }
-    Ok(())
-}
-
-#[test]
-fn long_lines(rt: HostRuntime) -> Result<(), Fail> {
-    let alloc = rt.alloc();
-    let file = flat_file(alloc)?;
-    let mut script = b"region 0 0 1 1 ppm".to_vec(alloc)?;
-    script.resize(4096, b' ')?;
-    assert_eq!(rt; ran(alloc, &file, &script)?.1.as_slice(), one_pixel());
-    script.push(b' ')?;
-    assert_eq!(rt;
-        ran(alloc, &file, &script)?.1.as_slice(),
-        b"no yet\n".as_slice()
-    );
-    Ok(())
-}
-
-#[test]
-fn long_scripts(rt: HostRuntime) -> Result<(), Fail> {
-    let alloc = rt.alloc();
-    let file = flat_file(alloc)?;
-    let mut script = vec![in alloc; b'x'; 1 << 24]?;
-    let (status, bytes) = ran(alloc, &file, &script)?;
-    assert_eq!(rt; status, Status::Done);
-    assert_eq!(rt; bytes.as_slice(), b"no yet\n".as_slice());
-    script.push(b'x')?;
-    let (status, bytes) = ran(alloc, &file, &script)?;
-    assert_eq!(rt; status, Status::ScriptTooLong);
-    assert!(rt; bytes.is_empty());
     Ok(())
 }
 

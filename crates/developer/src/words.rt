@@ -1,11 +1,12 @@
 //! The words of the command line.
 
-ghost use Rattle.std.specs.Prelude.{◌≡◌, IfOk, map, option_map, string_bytes};
+ghost use Rattle.std.specs.Prelude.{◌≡◌, ◌≤◌, ◌%◌, IfOk, IfSome, map, option_map, string_bytes};
 ghost use Rattle.clap.specs.Words.{app_of};
 ghost use Rattle.developer.specs.CommandLine.{named_words, rawdev};
 ghost use Rattle.developer.specs.Shown.{named_view, options_view};
 ghost use Rattle.developer.specs.Words.{budget_of, cell_of, options};
 
+use crate::options::Options;
 use clap::error::ErrorKind;
 use clap::{Arg, ArgAction, Command};
 use dev_settings::number;
@@ -22,19 +23,6 @@ const CELL: u32 = 128;
 const MIN_CELL: u32 = 16;
 
 const MAX_CELL: u32 = 512;
-
-/// What the words ask for.
-#[derive(Drop)]
-pub(crate) struct Options<'a> {
-    /// The name of the frame's file.
-    pub frame: &'a str,
-    /// The name of the settings file, where one is named.
-    pub settings: Option<&'a str>,
-    /// How many samples may be kept, at most 2^30. Nothing is kept yet.
-    pub budget: u32,
-    /// The side of a cell in samples, from 16 to 512 in steps of 16. No cells are made yet.
-    pub cell: u32,
-}
 
 /// What the words name, as texts.
 #[derive(Drop)]
@@ -139,7 +127,10 @@ fn budget(text: Option<&str>) -> Option<u32>
 
 /// The side of a cell.
 fn cell_side(text: Option<&str>) -> Option<u32>
-    ensures { result ≡ cell_of (option_map (λ text. text.now) text.entry) }
+    ensures side { result ≡ cell_of (option_map (λ text. text.now) text.entry) }
+    ensures least { IfSome result (λ side. 16 ≤ side) }
+    ensures most { IfSome result (λ side. side ≤ 512) }
+    ensures multiple { IfSome result (λ side. side % 16 ≡ 0) }
 {
     let Some(text) = text else {
         return Some(CELL);

@@ -1,27 +1,56 @@
 //! Writing to the sink, and counting what was written.
 
-ghost use Rattle.std.specs.Prelude.{◌≡◌, ℕ, ◌+◌, ◌^◌, ◌<◌, ◌≤◌, List, [], ◌++◌, length, Ok, OnOk};
-ghost use Rattle.developer.specs.Writes.{Writes};
+ghost use Rattle.std.specs.Prelude.{◌≡◌, ℕ, ◌+◌, ◌*◌, ◌^◌, ◌<◌, ◌≤◌, List, [], ◌++◌, length, Ok, Err, IfOk, IfErr, OnOk};
+ghost use Rattle.image_out.specs.Image.{pixels_of};
+ghost use Rattle.developer.specs.Pieces.{InPieces};
+ghost use Rattle.developer.specs.Writes.{Writes, by_write, stopped};
 
+use dev_settings::Format;
 use image_out::Piece;
 use raw_io::{Sink, WriteFault, write_all};
 
+/// Why an answer is cut short.
+#[derive(Clone, Copy, Debug, PartialEq, Eq)]
+pub(crate) enum Cause {
+    /// A write failed.
+    Write,
+    /// Memory ran out.
+    Memory,
+}
+
+/// An answer is cut short: of its bytes, `written` were written.
+#[derive(Clone, Copy, Debug, PartialEq, Eq)]
+pub(crate) struct Stop {
+    pub written: u64,
+    pub cause: Cause,
+}
+
+impl From<WriteFault> for Stop {
+    ghost use Rattle.developer.specs.Writes.{by_write};
+
+    ghost from_gives = { λ fault stop. stop ≡ by_write fault };
+
+    fn from(fault: WriteFault) -> Stop {
+        Stop {
+            written: fault.written,
+            cause: Cause::Write,
+        }
+    }
+}
+
 /// Writes bytes, and gives their number.
 pub(crate) fn write_bytes<O: Sink>(bytes: &[u8], out: &mut O) -> Result<u64, WriteFault>
-    ensures { Writes O.stands_for O.faults out.old out.new bytes.now (λ n. n) result }
+    ensures { Writes O.stands_for O.faults out.old out.new bytes.now (λ n. n) (stopped result) }
 {
     write_all(out, bytes)?;
     Ok(bytes.len() as u64)
 }
 
-/// The fault of a write before which `written` bytes were written, as one of all these bytes.
-pub(crate) fn fault_after(written: u64, fault: WriteFault) -> WriteFault
-    requires { written + fault.written < 2 ^ 64 }
-    ensures { result.written ≡ written + fault.written }
+/// Writes a whole reply, and gives its number of bytes.
+pub(crate) fn write_reply<O: Sink>(reply: &[u8], out: &mut O) -> Result<u64, Stop>
+    ensures { Writes O.stands_for O.faults out.old out.new reply.now (λ n. n) result }
 {
-    WriteFault {
-        written: written + fault.written,
-    }
+    Ok(write_bytes(reply, out)?)
 }
 
 /// Writes a piece and empties it, after `written` bytes that belong before it. Gives the number of both.
@@ -32,14 +61,51 @@ pub(crate) fn write_piece<O: Sink>(
 ) -> Result<u64, WriteFault>
     requires { written < 2 ^ 60 }
     ensures writes { (first : _) (before : List ℕ) → Writes O.stands_for O.faults first out.old before (λ n. n) (Ok written)
-        → Writes O.stands_for O.faults first out.new (before ++ piece.old) (λ n. n) result }
+        → Writes O.stands_for O.faults first out.new (before ++ piece.old) (λ n. n) (stopped result) }
     ensures emptied { OnOk result (piece.new ≡ []) }
+    ensures number { IfOk result (λ total. total ≡ written + length piece.old) }
 {
     match write_bytes(piece.as_bytes(), out) {
         Ok(more) => {
             piece.clear();
             Ok(written + more)
         }
-        Err(fault) => Err(fault_after(written, fault)),
+        Err(fault) => Err(WriteFault {
+            written: written + fault.written,
+        }),
     }
+}
+
+/// Appends rows of samples to a piece, `width` samples a row, and writes the piece where it is full. Before them `written`
+/// bytes were written. Gives the number of these and of those that it wrote.
+pub(crate) fn write_samples<O: Sink>(
+    samples: &[u16],
+    width: usize,
+    format: Format,
+    piece: &mut Piece,
+    written: u64,
+    out: &mut O,
+) -> Result<u64, WriteFault>
+    requires some { 1 ≤ width }
+    requires short { width ≤ 24576 }
+    requires room { length piece.old < 65536 }
+    requires few { written + length piece.old + 2 * length samples.now < 2 ^ 60 }
+    ensures pieces { (first : _) (all : List ℕ) → InPieces O.stands_for O.faults first out.old all piece.old written
+        → IfOk result (λ total. InPieces O.stands_for O.faults first out.new (all ++ pixels_of format samples.now) piece.new total) }
+    ensures stops { (first : _) (all : List ℕ) → InPieces O.stands_for O.faults first out.old all piece.old written
+        → IfErr result (λ fault. Writes {T = ℕ} O.stands_for O.faults first out.new (all ++ pixels_of format samples.now) (λ n. n) (Err (by_write fault))) }
+    ensures room { OnOk result (length piece.new < 65536) }
+    ensures number { IfOk result (λ total. total + length piece.new ≡ written + length piece.old + 2 * length samples.now) }
+{
+    let mut written = written;
+    let mut rest = samples;
+    while !rest.is_empty() {
+        let (row, below) = rest.split_at(rest.len().min(width));
+        piece.push_samples(row, format);
+        if piece.is_full() {
+            written = write_piece(piece, written, out)?;
+        }
+        rest = below;
+    }
+    Ok(written)
 }

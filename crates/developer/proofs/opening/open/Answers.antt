@@ -21,7 +21,7 @@ returns-in-Err-Memory-clause-ended g c left script_faults =
     let called : Call = record {
       words = map string_bytes c.args.words.now;
       before = record { told = g.F.Files.told c.args.files.now; file_faults = g.F.Files.faults c.args.files.now; left = left; script_faults = script_faults; sink_faults = g.O.Sink.faults c.args.out.now };
-      after = record { told = g.F.Files.told c.read.new.files; file_faults = g.F.Files.faults c.read.new.files; left = left; script_faults = script_faults; sink_faults = g.O.Sink.faults c.args.out.now };
+      after = record { told = g.F.Files.told c.read_frame_file.new.files; file_faults = g.F.Files.faults c.read_frame_file.new.files; left = left; script_faults = script_faults; sink_faults = g.O.Sink.faults c.args.out.now };
       written = [];
       taken = [];
     } in
@@ -32,7 +32,7 @@ returns-in-Err-Unread-clause-ended g c left script_faults =
     let called : Call = record {
       words = map string_bytes c.args.words.now;
       before = record { told = g.F.Files.told c.args.files.now; file_faults = g.F.Files.faults c.args.files.now; left = left; script_faults = script_faults; sink_faults = g.O.Sink.faults c.args.out.now };
-      after = record { told = g.F.Files.told c.read.new.files; file_faults = g.F.Files.faults c.read.new.files; left = left; script_faults = script_faults; sink_faults = g.O.Sink.faults c.args.out.now };
+      after = record { told = g.F.Files.told c.read_frame_file.new.files; file_faults = g.F.Files.faults c.read_frame_file.new.files; left = left; script_faults = script_faults; sink_faults = g.O.Sink.faults c.args.out.now };
       written = [];
       taken = [];
     } in (

@@ -8,8 +8,8 @@ use Rattle.developer.specs.Writes.{Writes}
 use Rattle.developer.specs.declared.script.Answered.{Answered}
 use Rattle.developer.specs.declared.status.Status.TheVariants.{Done, ScriptTooLong}
 use Rattle.developer.proofs.Outsides.{appends_nothing, prefix_taken, takes_nothing}
-use Rattle.developer.proofs.Endings.{calls_done, calls_long, frame_called, frame_opened, frame_prefix, nothing_prefix}
-use Rattle.developer.proofs.script.run_script.Goals as goal
+use Rattle.developer.proofs.Endings.{calls_done, calls_long, frame_called, frame_opened, frame_prefix, nothing_prefix, stopped_ends}
+use Rattle.developer.proofs.script.run_counted.Goals as goal
 
 pub returns-in_err-piece-clause-ended : goal.returns-in_err-piece-clause-ended
 returns-in_err-piece-clause-ended g c words told told_after files files_after chosen asks opens =
@@ -49,7 +49,7 @@ returns-in_err-answer_script-in-Ok-clause-ended g c words told told_after files 
       bytes,
       w.front,
       taken,
-      rw (p.1, p.2) (w.cause, frame_prefix (called written bytes) c.args.frame.now opens all Done calls (prefix_taken c.in_err-answer_script-in-Ok.field-0.0.written all)),
+      rw (p.1, p.2) (stopped_ends (called written bytes) c.in_err-answer_script-in-Ok.field-0.0.cause w.cause (frame_prefix (called written bytes) c.args.frame.now opens all Done calls (prefix_taken c.in_err-answer_script-in-Ok.field-0.0.written all))),
     )
 
 pub returns-in-Ok-clause-ended : goal.returns-in-Ok-clause-ended
@@ -90,14 +90,14 @@ returns-in_err-answer_complete_lines-in-Err-TooLong-clause-ended g c words told 
     let all : List ℕ = answers_of c.args.frame.now (lines_of (take max_script bytes)).complete in
     let front : c.deref-in-Err-TooLong.result.now ≡ take max_script bytes = c.deref-in-Err-TooLong.ensures.value ∙ c.truncate.ensures.items in
     let p = err_from_is_err_and c.from_residual-in_err-answer_complete_lines-in-Err-TooLong.result c.from_residual-in_err-answer_complete_lines-in-Err-TooLong.ensures.1 in
-    let fault = c.in_err-answer_complete_lines-in-Err-TooLong.field-0.0 in
-    let w = subst (λ (b : List ℕ). Writes {T = Answered} g.O.Sink.stands_for g.O.Sink.faults c.args.out.now c.answer_complete_lines.new.out (answers_of c.args.frame.now (lines_of b).complete) (λ a. a.written) (Err fault)) front c.in_err-answer_complete_lines-in-Err-TooLong.ensures.writes in
-    let written : List ℕ = take fault.written all in (
+    let stop = c.in_err-answer_complete_lines-in-Err-TooLong.field-0.0 in
+    let w = subst (λ (b : List ℕ). Writes {T = Answered} g.O.Sink.stands_for g.O.Sink.faults c.args.out.now c.answer_complete_lines.new.out (answers_of c.args.frame.now (lines_of b).complete) (λ a. a.written) (Err stop)) front c.in_err-answer_complete_lines-in-Err-TooLong.ensures.writes in
+    let written : List ℕ = take stop.written all in (
       written,
       bytes,
       w.front,
       told-long.0,
-      rw (p.1, p.2) (w.cause, frame_prefix (called written bytes) c.args.frame.now opens all ScriptTooLong calls (prefix_taken fault.written all)),
+      rw (p.1, p.2) (stopped_ends (called written bytes) stop.cause w.cause (frame_prefix (called written bytes) c.args.frame.now opens all ScriptTooLong calls (prefix_taken stop.written all))),
     )
 
 pub returns-in-Err-TooLong-clause-ended : goal.returns-in-Err-TooLong-clause-ended

@@ -1,0 +1,230 @@
+//! Regions of what the stages of a session make: band by band, each a part of one row of cells.
+
+ghost use Rattle.std.specs.Prelude.{◌≡◌, ℕ, ◌+◌, ◌-◌, ◌*◌, ◌^◌, ◌≤◌, ◌<◌, ◌++◌, [], length, Ok, Err, Some, slice_get, IfOk, IfErr, IfSome, OnOk, min};
+ghost use Rattle.plane_view.specs.Plane.{crop};
+ghost use Rattle.plane_view.specs.Rectangles.{area_of};
+ghost use Rattle.stage_core.specs.Stages.{shape_of};
+ghost use Rattle.stage_chain.specs.Chains.{TakeInTurn, whole_of};
+ghost use Rattle.dev_stages.specs.Changes.{AreLike, replaced};
+ghost use Rattle.dev_stages.specs.Members.{apply_of, shaped_of, takes_of};
+ghost use Rattle.image_out.specs.Image.{head_of, pixels_of, reply_head_of};
+ghost use Rattle.developer.specs.Develop.{Develops, IsWithin, StagesStay};
+ghost use Rattle.developer.specs.Pieces.{InPieces};
+ghost use Rattle.developer.specs.Replies.{image, image_reply, max_answer, part_of};
+ghost use Rattle.developer.specs.Writes.{Writes};
+
+use crate::writing::{Cause, Stop, write_piece, write_samples};
+use dev_settings::Format;
+use dev_stages::DevStage;
+use image_out::{Piece, TIFF_HEAD, pixmap_head, reply_line, tiff_head};
+use plane_view::{Rect, Shape};
+use raw_io::Sink;
+use region_session::Session;
+use stage_core::{Base, Steps};
+use std::alloc::Global;
+use std::sync::ledger::Ledger;
+
+/// The rectangle of `w` columns from `x` and `h` rows from `y`, where it has a pixel and lies in the last plane.
+pub(crate) fn part<B: Base>(
+    session: &Session<B, DevStage>,
+    x: u32,
+    y: u32,
+    w: u32,
+    h: u32,
+) -> Option<Rect>
+    requires { Develops session.now.plane session.now.stages }
+    ensures rect { result ≡ part_of (whole_of apply_of session.now.stages session.now.plane) x y w h }
+    ensures within { IfSome result (λ rect. IsWithin rect (whole_of apply_of session.now.stages session.now.plane)) }
+{
+    let Shape { rows, cols, .. } = session.shape();
+    let right = u64::from(x) + u64::from(w);
+    let bottom = u64::from(y) + u64::from(h);
+    if 0 < w && 0 < h && right <= u64::from(cols) && bottom <= u64::from(rows) {
+        Some(Rect {
+            top: y,
+            left: x,
+            bottom: y + h,
+            right: x + w,
+        })
+    } else {
+        None
+    }
+}
+
+/// Puts a stage in the place of stage `k`, counted from 1, which takes what that one takes and makes planes of the same
+/// shapes.
+pub(crate) fn replace<B: Base>(session: &mut Session<B, DevStage>, k: u32, stage: DevStage)
+    requires least { 1 ≤ k }
+    requires most { k ≤ length session.old.stages }
+    requires takes { TakeInTurn takes_of shaped_of session.old.stages (shape_of session.old.plane) }
+    requires like { (old : DevStage) → slice_get session.old.stages (k - 1) ≡ Some old → AreLike old stage }
+    ensures stages { session.new.stages ≡ replaced k stage session.old.stages }
+    ensures plane { session.new.plane ≡ session.old.plane }
+    ensures side { session.new.side ≡ session.old.side }
+{
+    match session.replace(k, stage) {
+        Ok(()) => {}
+        Err(_) => unreachable!(),
+    }
+}
+
+/// Writes a part of the last plane as an image, after the line that tells its length. The line, the image's head and its
+/// first rows go out together, and rows in pieces of at least 64 KiB where there are as many.
+pub(crate) fn write_image<B: Base, O: Sink, L: Ledger>(
+    alloc: Global,
+    session: &mut Session<B, DevStage>,
+    rect: Rect,
+    format: Format,
+    piece: &mut Piece,
+    out: &mut O,
+    work: &mut Steps<L>,
+) -> Result<u64, Stop>
+    requires develops { Develops session.old.plane session.old.stages }
+    requires within { IsWithin rect (whole_of apply_of session.old.stages session.old.plane) }
+    requires least { 16 ≤ session.old.side }
+    requires most { session.old.side ≤ 512 }
+    ensures writes { Writes O.stands_for O.faults out.old out.new
+        (image_reply (image (whole_of apply_of session.old.stages session.old.plane) rect format)) (λ n. n) result }
+    ensures short { length (image_reply (image (whole_of apply_of session.old.stages session.old.plane) rect format)) ≤ max_answer }
+    ensures stays { StagesStay session.old session.new }
+{
+    piece.clear();
+    push_heads(
+        rect.right - rect.left,
+        rect.bottom - rect.top,
+        format,
+        piece,
+    );
+    let rows = (rect.bottom - rect.top).min(session.cell());
+    let Ok(mut samples) = vec![in alloc; 0u16; rows as usize * row_length(rect)] else {
+        return Err(Stop {
+            written: 0,
+            cause: Cause::Memory,
+        });
+    };
+    write_bands(session, rect, format, piece, &mut samples, out, work)
+}
+
+/// How many samples a row of a rectangle has, three to a pixel.
+fn row_length(rect: Rect) -> usize
+    requires cols { rect.left ≤ rect.right }
+    ensures { result ≡ (rect.right - rect.left) * 3 }
+{
+    (rect.right - rect.left) as usize * 3
+}
+
+/// Puts the line before an image of `w` columns and `h` rows, and the image's head, into an empty piece.
+fn push_heads(w: u32, h: u32, format: Format, piece: &mut Piece)
+    requires empty { piece.old ≡ [] }
+    requires cols { w ≤ 8192 }
+    requires rows { h ≤ 8192 }
+    ensures heads { piece.new ≡ reply_head_of (length (head_of format w h) + h * (6 * w)) ++ head_of format w h }
+    ensures short { length piece.new ≤ 256 }
+{
+    let pixels = u64::from(h) * (6 * u64::from(w));
+    match format {
+        Format::Ppm => {
+            let head = pixmap_head(w, h);
+            piece.push_line(&reply_line(head.as_bytes().len() as u64 + pixels));
+            piece.push_line(&head);
+        }
+        Format::Tiff => {
+            let mut head = [0; TIFF_HEAD];
+            tiff_head(w, h, &mut head);
+            piece.push_line(&reply_line(head.len() as u64 + pixels));
+            piece.push(&head);
+        }
+    }
+}
+
+/// Writes what a piece holds and then the samples of a rectangle of the last plane. Its rows that lie in one row of cells
+/// are a band, for whose samples there is room.
+fn write_bands<B: Base, O: Sink, L: Ledger>(
+    session: &mut Session<B, DevStage>,
+    rect: Rect,
+    format: Format,
+    piece: &mut Piece,
+    samples: &mut [u16],
+    out: &mut O,
+    work: &mut Steps<L>,
+) -> Result<u64, Stop>
+    requires develops { Develops session.old.plane session.old.stages }
+    requires within { IsWithin rect (whole_of apply_of session.old.stages session.old.plane) }
+    requires least { 16 ≤ session.old.side }
+    requires most { session.old.side ≤ 512 }
+    requires heads { length piece.old ≤ 256 }
+    requires samples { length samples.old ≡ min (rect.bottom - rect.top) session.old.side * ((rect.right - rect.left) * 3) }
+    ensures writes { Writes O.stands_for O.faults out.old out.new
+        (piece.old ++ pixels_of format (crop (whole_of apply_of session.old.stages session.old.plane) rect).samples) (λ n. n) result }
+    ensures stays { StagesStay session.old session.new }
+{
+    let side = session.cell();
+    let mut written = 0;
+    let mut top = rect.top;
+    while top < rect.bottom {
+        let band = band_from(rect, top, side);
+        written = write_band(session, band, format, piece, samples, written, out, work)?;
+        top = band.bottom;
+    }
+    Ok(write_piece(piece, written, out)?)
+}
+
+/// The rows of a rectangle from a row on that lie in one row of cells.
+fn band_from(rect: Rect, top: u32, side: u32) -> Rect
+    requires above { rect.top ≤ top }
+    requires below { top < rect.bottom }
+    requires rows { rect.bottom ≤ 8192 }
+    requires least { 16 ≤ side }
+    requires most { side ≤ 512 }
+    ensures top { result.top ≡ top }
+    ensures left { result.left ≡ rect.left }
+    ensures right { result.right ≡ rect.right }
+    ensures some { top < result.bottom }
+    ensures bottom { result.bottom ≤ rect.bottom }
+    ensures few { result.bottom - top ≤ side }
+{
+    Rect {
+        top,
+        bottom: rect.bottom.min(top - top % side + side),
+        ..rect
+    }
+}
+
+/// Appends the samples of a band to a piece, and writes the piece where it is full. Before them `written` bytes were
+/// written. Gives the number of these and of those that it wrote.
+fn write_band<B: Base, O: Sink, L: Ledger>(
+    session: &mut Session<B, DevStage>,
+    band: Rect,
+    format: Format,
+    piece: &mut Piece,
+    samples: &mut [u16],
+    written: u64,
+    out: &mut O,
+    work: &mut Steps<L>,
+) -> Result<u64, Stop>
+    requires develops { Develops session.old.plane session.old.stages }
+    requires within { IsWithin band (whole_of apply_of session.old.stages session.old.plane) }
+    requires samples { area_of band * 3 ≤ length samples.old }
+    requires room { length piece.old < 65536 }
+    requires few { written + length piece.old + 2 * (area_of band * 3) < 2 ^ 60 }
+    ensures pieces { (first : _) (all : _) → InPieces O.stands_for O.faults first out.old all piece.old written
+        → IfOk result (λ total. InPieces O.stands_for O.faults first out.new
+        (all ++ pixels_of format (crop (whole_of apply_of session.old.stages session.old.plane) band).samples) piece.new total) }
+    ensures stops { (first : _) (all : _) → InPieces O.stands_for O.faults first out.old all piece.old written
+        → IfErr result (λ stop. Writes {T = ℕ} O.stands_for O.faults first out.new
+        (all ++ pixels_of format (crop (whole_of apply_of session.old.stages session.old.plane) band).samples) (λ n. n) (Err stop)) }
+    ensures room { OnOk result (length piece.new < 65536) }
+    ensures number { IfOk result (λ total. total + length piece.new ≡ written + length piece.old + 2 * (area_of band * 3)) }
+    ensures stays { StagesStay session.old session.new }
+    ensures samples { length samples.new ≡ length samples.old }
+{
+    let width = row_length(band);
+    let made = &mut samples[..(band.bottom - band.top) as usize * width];
+    match session.band(band, made, work) {
+        Ok(()) => Ok(write_samples(made, width, format, piece, written, out)?),
+        Err(_) => Err(Stop {
+            written,
+            cause: Cause::Memory,
+        }),
+    }
+}
