@@ -1,5 +1,5 @@
 -- Each made frame is accepted, and decoded to its samples.
-use Rattle.std.proofs.Common.{◌≡◌, ℕ, ◌+◌, ◌*◌, ◌^◌, ◌<◌, ◌≤◌, nat_eq, true, List, ◌++◌, length, None, Ok, refl, sym, ap, ◌∙◌, subst, arith}
+use Rattle.std.proofs.Common.{◌≡◌, ℕ, ◌+◌, ◌*◌, ◌^◌, ◌<◌, ◌≤◌, nat_eq, true, List, ◌++◌, length, Result, Ok, Err, IfOk, Vec, Global, None, refl, sym, ap, ◌∙◌, subst, arith}
 use Rattle.std.specs.Prelude.{◌||◌}
 use Rattle.std.specs.List.{flat_map, range_with_len}
 use Rattle.std.proofs.lemmas.List.Elements.{All-weaker}
@@ -125,3 +125,8 @@ all_decoded number w h kind sides =
 pub raw_plane : (number w h : ℕ) (kind : Make) → AreSides w h → raw (made_bytes number w h kind) (made_frame number w h kind) ≡ made_plane number w h
 raw_plane number w h kind sides =
     plane_is (made_bytes number w h kind) (coding_of (made_frame number w h kind)) number w h (length (made_strip number w h kind)) (samples_read number w h kind sides)
+
+-- the same of bytes that are made
+pub short_where : {E : Type 0} (result : Result (Vec ℕ Global) E) (number w h : ℕ) (kind : Make) → AreSides w h → IfOk result (λ bytes. bytes.items ≡ made_bytes number w h kind) → IfOk result (λ bytes. length bytes.items ≤ 268435456)
+short_where (Ok bytes) number w h kind sides made = rw made (short_enough number w h kind sides)
+short_where (Err e) number w h kind sides made = tt

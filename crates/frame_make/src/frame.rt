@@ -1,6 +1,6 @@
 //! The file of a made frame.
 
-ghost use Rattle.std.specs.Prelude.{◌≡◌, ◌≤◌, ◌*◌, ◌^◌, [], ◌∷◌, IfOk};
+ghost use Rattle.std.specs.Prelude.{◌≡◌, ◌≤◌, ◌*◌, ◌^◌, [], ◌∷◌, IfOk, length};
 ghost use Rattle.frame_make.specs.Made.{bytes_under, compression_of, depth_of, fields_of, longs, made_bytes, shorts};
 
 use crate::Make;
@@ -11,7 +11,8 @@ use tiff_dirs::Order;
 use tiff_write::{Field, file_bytes};
 
 /// The file of a frame of w columns and h rows, whose sample at row r, column c is `(number + 37 * r + 101 * c + r * c) %
-/// 4096`: a directory of 11 entries behind the header, in the order II, and one strip.
+/// 4096`: a directory of 11 entries behind the header, in the order II, and one strip. It has at most 2^28 bytes, and is
+/// accepted (`made_is_accepted`).
 ///
 /// # Errors
 ///
@@ -29,7 +30,8 @@ pub fn make_frame(
     requires some_rows { 4 ≤ h }
     requires rows { h ≤ 8192 }
     requires area { w * h ≤ 2 ^ 25 }
-    ensures { IfOk result (λ bytes. bytes.items ≡ made_bytes number w h kind) }
+    ensures bytes { IfOk result (λ bytes. bytes.items ≡ made_bytes number w h kind) }
+    ensures short { IfOk result (λ bytes. length bytes.items ≤ 2 ^ 28) }
 {
     let strip = made_strip(alloc, number, w, h, kind)?;
     let strip_length = u32::try_from(strip.len()).map_err(|_| AllocError)?;

@@ -1,9 +1,9 @@
 //! A frame's first bytes, typed from the tables of TIFF 6.0 and DNG 1.6, a packed row computed by hand, and small frames
 //! that are read back.
-ghost use Rattle.std.specs.Prelude.{◌≡◌, ◌<◌};
+ghost use Rattle.std.specs.Prelude.{◌≡◌, ◌≤◌, ◌<◌, ◌^◌, length};
 
 use crate::{Make, make_frame};
-use dng_tags::{FrameFault, MAX_BYTES, read_frame};
+use dng_tags::{FrameFault, read_frame};
 use frame_segments::Segments;
 use plane_view::{Rect, TileMut, View};
 use stage_core::{Base, Steps};
@@ -99,10 +99,9 @@ fn fetched<B: Base, L: Ledger>(
 }
 
 // What reading a file back gives: how many samples, and how many of them are wrong.
-fn read_back(alloc: Global, file: &[u8], number: u32) -> Result<(u64, u32), FrameFault> {
-    if file.len() as u64 > MAX_BYTES {
-        return Err(FrameFault::TooLong);
-    }
+fn read_back(alloc: Global, file: &[u8], number: u32) -> Result<(u64, u32), FrameFault>
+    requires { length file.now ≤ 2 ^ 28 }
+{
     let frame = read_frame(alloc, file)?;
     let mut segments = Segments::open(alloc, file, &frame)?;
     match fetched::<Segments<'_>, Brand>(alloc, &mut segments, number, Blank::new(1)) {
