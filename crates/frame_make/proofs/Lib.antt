@@ -1,0 +1,10 @@
+pub mod Acceptance
+pub mod Groups
+pub mod Heads
+pub mod Packing
+pub mod Planes
+pub mod Reading
+pub mod Rows
+pub mod Sizes
+pub mod Streams
+pub mod WholeBytes
