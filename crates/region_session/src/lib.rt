@@ -1,11 +1,13 @@
 //! Development by cells: any rectangle of the last plane of stages over a base, from the cells that it rests on.
 #![tactic(auto)]
 
+mod bands;
 mod faults;
 mod filling;
 mod layers;
 mod making;
 mod patch;
+mod planes;
 mod session;
 mod tally;
 
