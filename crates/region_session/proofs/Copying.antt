@@ -1,18 +1,17 @@
 -- Cells that are put into a part, by the list of their numbers.
-use Rattle.std.proofs.Common.{◌≡◌, ℕ, ◌+◌, ◌*◌, ◌<◌, ◌≤◌, ◌^◌, List, [], ◌∷◌, ◌++◌, length, get_or, slice_get, Some, take, Bool, true, false, cond, not, refl, sym, ◌∙◌, ap, subst, arith, ⊎_elim}
+use Rattle.std.proofs.Common.{◌≡◌, ℕ, ◌+◌, ◌*◌, ◌<◌, List, [], ◌∷◌, ◌++◌, length, get_or, slice_get, Some, take, Bool, true, false, cond, not, refl, sym, ◌∙◌, ap, subst, arith, ⊎_elim}
 use Rattle.std.specs.List.{All, Contains}
 use Rattle.std.proofs.lemmas.List.{append-nil, append_assoc, get_or-map, length-map, take_more}
 use Rattle.std.proofs.lemmas.List.Elements.{All-filter, Contains-push_cases, filter_more}
-use Rattle.std.proofs.lemmas.Option.{slice_get-get_or, get_or_from_slice_get}
+use Rattle.std.proofs.lemmas.Option.{get_or_from_slice_get}
 use Rattle.plane_view.specs.declared.Rect.{Rect}
-use Rattle.plane_view.specs.declared.Shape.{Shape}
 use Rattle.plane_view.specs.Plane.{Plane, crop}
 use Rattle.plane_view.specs.Rectangles.{HasPixel, LiesIn, area_of}
-use Rattle.plane_view.specs.Lent.{AgreesWith, Lent, lent_crop, part_of, sample_at}
+use Rattle.plane_view.specs.Lent.{Lent, lent_crop, part_of}
 use Rattle.plane_view.specs.Tiles.{CopiesFrom}
 use Rattle.plane_view.proofs.Agreement.{crop_at, crop_of_part}
 use Rattle.stage_deps.specs.Cells.{cell_at, cells_at, no_rect}
-use Rattle.kept_cells.specs.Held.{Held, HasCells, IsRight, SameHeld, fresh, missing}
+use Rattle.kept_cells.specs.Held.{Held, HasCells, IsRight, fresh, missing}
 use Rattle.kept_cells.proofs.Lower.{among_both}
 use Rattle.region_session.specs.Parts.{HaveSizes, IsFilled}
 use Rattle.region_session.proofs.Writing.{pixel_cases}

@@ -1,17 +1,13 @@
 -- Tiers of stages with layers, and the tier on top.
-use Rattle.std.proofs.Common.{◌≡◌, ℕ, ◌+◌, ◌<◌, ◌≤◌, List, [], ◌∷◌, ◌++◌, length, map, Bool, true, false, cond, refl, sym, ◌∙◌, ap, subst, arith}
-use Rattle.std.specs.List.{All}
-use Rattle.std.proofs.lemmas.List.{length-map}
+use Rattle.std.proofs.Common.{◌≡◌, ℕ, ◌+◌, List, [], ◌∷◌, ◌++◌, length, map, refl, sym, ◌∙◌, ap, subst, arith}
 use Rattle.plane_view.specs.declared.Rect.{Rect}
 use Rattle.plane_view.specs.declared.Shape.{Shape}
 use Rattle.plane_view.specs.Plane.{Plane}
-use Rattle.plane_view.specs.Rectangles.{LiesIn}
 use Rattle.plane_view.specs.Shapes.{IsShape}
-use Rattle.plane_view.specs.Lent.{AgreesWith, Lent}
-use Rattle.stage_core.specs.Planes.{IsPart, IsPlane}
+use Rattle.stage_core.specs.Planes.{IsPlane}
 use Rattle.stage_chain.specs.Chains.{whole_of}
 use Rattle.stage_deps.specs.declared.grid.Grid.{Grid}
-use Rattle.stage_deps.specs.Cells.{cell_at, cells_at, meeting, meeting_from}
+use Rattle.stage_deps.specs.Cells.{cells_at, meeting, meeting_from}
 use Rattle.stage_deps.specs.Grids.{grid_cells}
 use Rattle.kept_cells.specs.Held.{AreRight, HasSizes, Held, IsRight, fresh, missing}
 use Rattle.kept_cells.specs.Kept.{Kept, brought_above, brought_each, keep, keep_base, put_above, put_each, size_of}

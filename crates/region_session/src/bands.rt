@@ -15,10 +15,9 @@ ghost use Rattle.region_session.specs.Layers.{AreLayers};
 ghost use Rattle.region_session.specs.Parts.{Shows};
 ghost use Rattle.region_session.specs.Stacks.{last_shape};
 
-use crate::filling::Source;
 use crate::layers::{Layer, Needed};
 use crate::patch::Patch;
-use crate::planes::{fetch_wanted, open_wanted, run_missing};
+use crate::planes::{Source, fetch_wanted, open_wanted, run_missing};
 use kept_cells::Cache;
 use plane_view::Rect;
 use stage_core::{Base, Stage, Steps};

@@ -3,9 +3,7 @@
 
 mod bands;
 mod faults;
-mod filling;
 mod layers;
-mod making;
 mod patch;
 mod planes;
 mod session;

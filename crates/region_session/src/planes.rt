@@ -16,7 +16,6 @@ ghost use Rattle.kept_cells.specs.Held.{HasCells, HasSizes, IsRight, SameHeld, T
 ghost use Rattle.kept_cells.specs.Kept.{brought_each, keep_base, put_each, size_of};
 ghost use Rattle.region_session.specs.Parts.{HaveSizes, Shows};
 
-use crate::filling::Source;
 use crate::layers::Needed;
 use crate::patch::Patch;
 use kept_cells::Cache;
@@ -25,6 +24,14 @@ use stage_core::{Base, Stage, Steps};
 use stage_deps::{Grid, hull, meeting_cells, needs_of, rects_of};
 use std::alloc::{AllocError, Global};
 use std::sync::ledger::Ledger;
+
+/// A base, the rectangles of its cells, and how many of them were fetched.
+#[derive(Drop)]
+pub(crate) struct Source<B> {
+    pub base: B,
+    pub cells: Vec<Rect>,
+    pub fetched: u64,
+}
 
 /// Copies the cells of these numbers that are held into a part of their plane, and tells the numbers of the others.
 fn copy_fresh<C: Cache>(

@@ -1,4 +1,4 @@
-use Rattle.std.proofs.Common.{rules, ◌≡◌, ℕ, ◌+◌, ◌-◌, ◌^◌, ◌<◌, ◌≤◌, List, [], ◌∷◌, ◌++◌, length, map, true, false, refl, sym, ◌∙◌, ap, subst, arith}
+use Rattle.std.proofs.Common.{rules, ◌≡◌, ℕ, ◌+◌, ◌<◌, ◌≤◌, List, [], ◌∷◌, ◌++◌, length, map, false, refl, sym, ◌∙◌, ap, subst, arith}
 use Rattle.std.specs.List.{All}
 use Rattle.std.specs.List.Sorted.{IsStrictlyIncreasing}
 use Rattle.std.proofs.lemmas.Bool.{eqb-true}
@@ -18,11 +18,10 @@ use Rattle.stage_chain.specs.Chains.{whole_of}
 use Rattle.stage_deps.specs.declared.grid.Grid.{Grid}
 use Rattle.stage_deps.specs.Cells.{cell_at, cells_at, meeting}
 use Rattle.stage_deps.specs.Grids.{grid_cells}
-use Rattle.stage_deps.specs.Stamping.{Stamped}
 use Rattle.stage_deps.proofs.Coverage.{unmapped}
 use Rattle.stage_deps.proofs.GridCells.{grid_makes_up}
 use Rattle.kept_cells.specs.Held.{AreRight, HasCells, Held, IsRight, TakesUpTo, fresh, missing}
-use Rattle.kept_cells.specs.Kept.{Kept, brought_each, keep, put_each, size_of}
+use Rattle.kept_cells.specs.Kept.{Kept, Marks, brought_each, keep, put_each, size_of}
 use Rattle.kept_cells.specs.Missing.{count_of_fetches, count_of_runs, needs_of}
 use Rattle.kept_cells.specs.Tiers.{Tier, developed, tiers_of}
 use Rattle.kept_cells.proofs.Keeping.{absent_later, keep_same, keep_top, missing_rises}
@@ -534,7 +533,7 @@ make-requires g t c κs within =
     (cells_at cells gone)
     (cells_are_parts grid.shape cells gone up (missing_bounds held plane cells wanted)))) in
     let room : length c.in-Some.rest.now ≡ length below + 1 = omega (arith, c.requires.needed, c.in-Some.ensures.cases.1, c.in-Some-split_last.ensures.cases.1) in
-    let marks : length (g.C.Cache.marks c.open_wanted.new.cache).stamps ≡ length (g.C.Cache.marks c.args.cache.now).stamps = ap (λ (m : Stamped). length m.stamps) c.open_wanted.ensures.marks in (
+    let marks : length (g.C.Cache.marks c.open_wanted.new.cache).stamps ≡ length (g.C.Cache.marks c.args.cache.now).stamps = ap (λ (m : Marks). length m.stamps) c.open_wanted.ensures.marks in (
       search rules,
       (
         search rules,

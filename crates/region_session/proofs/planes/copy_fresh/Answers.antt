@@ -3,7 +3,7 @@ use Rattle.std.proofs.lemmas.List.{take_all, append-nil, get_or-map}
 use Rattle.plane_view.specs.declared.Rect.{Rect}
 use Rattle.plane_view.specs.Lent.{Lent}
 use Rattle.plane_view.specs.Tiles.{CopiesFrom}
-use Rattle.stage_deps.specs.Cells.{cell_at, cells_at, no_rect}
+use Rattle.stage_deps.specs.Cells.{cell_at, no_rect}
 use Rattle.kept_cells.specs.Held.{HasCells, Held, SameHeld, fresh, missing}
 use Rattle.kept_cells.proofs.Keeping.{brought_step}
 use Rattle.kept_cells.proofs.Lower.{missing_step}

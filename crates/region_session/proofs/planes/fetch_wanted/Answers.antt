@@ -1,4 +1,4 @@
-use Rattle.std.proofs.Common.{◌≡◌, ℕ, ◌<◌, ◌++◌, List, length, false, sym, ◌∙◌, ap, subst, arith}
+use Rattle.std.proofs.Common.{◌≡◌, ℕ, ◌<◌, ◌++◌, List, length, false, sym, ◌∙◌, ap, subst}
 use Rattle.std.specs.List.{All}
 use Rattle.std.specs.List.Sorted.{IsStrictlyIncreasing}
 use Rattle.plane_view.specs.declared.Rect.{Rect}
@@ -7,15 +7,13 @@ use Rattle.plane_view.specs.Plane.{Plane}
 use Rattle.plane_view.specs.Rectangles.{LiesIn}
 use Rattle.plane_view.specs.Lent.{Lent}
 use Rattle.stage_core.specs.Bases.{AreCells}
-use Rattle.stage_core.specs.Planes.{IsPart, IsPlane}
-use Rattle.stage_core.specs.Stages.{shape_of}
+use Rattle.stage_core.specs.Planes.{IsPart}
 use Rattle.stage_core.proofs.Formulas.{shape_is}
 use Rattle.stage_deps.specs.Cells.{MakeUp, cell_at, cells_at, meeting}
 use Rattle.stage_deps.proofs.Coverage.{meeting_bounds}
 use Rattle.kept_cells.specs.Held.{HasCells, Held, fresh, missing}
 use Rattle.kept_cells.proofs.Keeping.{absent_later, missing_rises}
 use Rattle.kept_cells.proofs.Lower.{missing_bounds, sizes_from}
-use Rattle.region_session.specs.Parts.{HaveSizes}
 use Rattle.region_session.proofs.Copying.{filled_from, missing_told, sizes_of}
 use Rattle.region_session.proofs.Covering.{needed_are_parts, shows_wanted}
 use Rattle.region_session.proofs.Sizes.{small_part}

@@ -1,11 +1,10 @@
 use Rattle.std.proofs.Common.{◌≡◌, ℕ, ◌<◌, List, length, sym, ◌∙◌, ap, subst, arith}
 use Rattle.std.specs.List.{All}
-use Rattle.std.proofs.lemmas.List.{length-map}
 use Rattle.std.proofs.lemmas.Result.{IfOk-weaker}
 use Rattle.plane_view.specs.declared.Rect.{Rect}
 use Rattle.plane_view.specs.declared.Shape.{Shape}
 use Rattle.stage_core.specs.Planes.{IsPart}
-use Rattle.stage_deps.specs.Cells.{MakeUp, cell_at, cells_at, meeting}
+use Rattle.stage_deps.specs.Cells.{MakeUp, cells_at, meeting}
 use Rattle.stage_deps.specs.Grids.{grid_cells}
 use Rattle.stage_deps.proofs.Coverage.{meeting_bounds}
 use Rattle.stage_deps.proofs.GridCells.{grid_makes_up}
