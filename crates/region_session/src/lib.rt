@@ -14,4 +14,8 @@ pub use session::Session;
 pub use tally::Tally;
 
 #[cfg(test)]
+mod kept_tests;
+#[cfg(test)]
+mod list_tests;
+#[cfg(test)]
 mod tests;

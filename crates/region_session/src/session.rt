@@ -24,6 +24,8 @@ use stage_core::{Base, Stage, Steps};
 use std::alloc::{AllocError, Global};
 use std::marker::Model;
 use std::sync::ledger::Ledger;
+#[cfg(test)]
+use tile_cache::Key;
 
 /// Stages one after the other over a base, and cells that are kept under a budget. Contracts see the base's plane, cells
 /// and count of fetches, the stages, the stamps and changes, the keys that are held, and how many cells were fetched and
@@ -39,7 +41,7 @@ pub struct Session<B: Base, S: Stage> {
     layers: Vec<Layer>,
     needed: Vec<Needed>,
     patch: Patch,
-    pub(crate) tiles: Tiles,
+    tiles: Tiles,
     side: u32,
     ran: u64,
 }
@@ -154,10 +156,11 @@ impl<B: Base, S: Stage> Session<B, S> {
         requires least { 1 ≤ k }
         requires most { k ≤ length self.old.stages }
         requires changes { self.old.stamps.changes < 2 ^ 40 }
+        ensures replaced { OnOk result (self.new ≡ record self.old { stages = slice_set self.old.stages (k - 1) stage; stamps = self.new.stamps }) }
         ensures equal { OnOk result ((former : S) → slice_get self.old.stages (k - 1) ≡ Some former → S.eq former stage ≡ true
-            → self.new ≡ record self.old { stages = slice_set self.old.stages (k - 1) stage }) }
+            → self.new.stamps ≡ self.old.stamps) }
         ensures other { OnOk result ((former : S) → slice_get self.old.stages (k - 1) ≡ Some former → S.eq former stage ≡ false
-            → self.new ≡ record self.old { stages = slice_set self.old.stages (k - 1) stage; stamps = changed k self.old.stamps }) }
+            → self.new.stamps ≡ changed k self.old.stamps) }
         ensures same { OnOk result (IsShapeOver S.takes S.shaped stage (plane_shape S.shaped (shape_of self.old.plane) self.old.stages (k - 1))
             (Some (plane_shape S.shaped (shape_of self.old.plane) self.old.stages k))) }
         ensures had { IfErr result (λ fault. fault.had ≡ plane_shape S.shaped (shape_of self.old.plane) self.old.stages k) }
@@ -263,6 +266,12 @@ impl<B: Base, S: Stage> Session<B, S> {
         ensures { result ≡ self.now.side }
     {
         self.side
+    }
+
+    /// The keys that are held, the most recent first.
+    #[cfg(test)]
+    pub(crate) fn keys(&self) -> Result<Vec<Key>, AllocError> {
+        self.tiles.cells.keys()
     }
 
     /// Ends the session: the numbers of the tally rise by its own.
