@@ -50,8 +50,6 @@ pub new-grid-requires-clause-shape : goal.new-grid-requires-clause-shape
 new-grid-requires-clause-shape g t c =
     let takes = g.S.Stage.takes in
     let shaped = g.S.Stage.shaped in
-    let apply = g.S.Stage.apply in
-    let need = g.S.Stage.needed in
     let P : Plane = g.B.Base.plane c.args.source.now.base in
     let input : Shape = shape_of P in
     let all = c.args.stages.now in
@@ -67,7 +65,6 @@ open_wanted-requires-clause-shape g t c =
     let takes = g.S.Stage.takes in
     let shaped = g.S.Stage.shaped in
     let apply = g.S.Stage.apply in
-    let need = g.S.Stage.needed in
     let P : Plane = g.B.Base.plane c.args.source.now.base in
     let input : Shape = shape_of P in
     let all = c.args.stages.now in
@@ -82,13 +79,6 @@ open_wanted-requires-clause-shape g t c =
     let side : ℕ = c.args.side in
     let top = on_top takes shaped apply g.met.S.Stage.makes_shapes g.met.S.Stage.makes_planes input P side all below stage c.args.layers.now lower layer grid
     c.in-Some-split_last.ensures.cases.0 (omega (arith, c.in-Some-split_last.ensures.cases.1)) c.in-Some-split_last-2.ensures.cases.0 c.requires.layers is_input is_P c.new-grid.ensures.shape c.new-grid.ensures.side in
-    let cells : List Rect = grid_cells grid.shape grid.side in
-    let plane : ℕ = length all in
-    let tier : Tier _ = tier_on stage layer grid in
-    let tiers : List (Tier _) = tiers_of shaped side input below in
-    let all_tiers : List (Tier _) = tiers_of shaped side input all in
-    let held : Held = g.C.Cache.held c.args.cache.now in
-    let wanted : List Rect = c.args.wanted.now in
     top.input
 
 pub open_wanted-requires-clause-takes : goal.open_wanted-requires-clause-takes
@@ -96,7 +86,6 @@ open_wanted-requires-clause-takes g t c =
     let takes = g.S.Stage.takes in
     let shaped = g.S.Stage.shaped in
     let apply = g.S.Stage.apply in
-    let need = g.S.Stage.needed in
     let P : Plane = g.B.Base.plane c.args.source.now.base in
     let input : Shape = shape_of P in
     let all = c.args.stages.now in
@@ -111,13 +100,6 @@ open_wanted-requires-clause-takes g t c =
     let side : ℕ = c.args.side in
     let top = on_top takes shaped apply g.met.S.Stage.makes_shapes g.met.S.Stage.makes_planes input P side all below stage c.args.layers.now lower layer grid
     c.in-Some-split_last.ensures.cases.0 (omega (arith, c.in-Some-split_last.ensures.cases.1)) c.in-Some-split_last-2.ensures.cases.0 c.requires.layers is_input is_P c.new-grid.ensures.shape c.new-grid.ensures.side in
-    let cells : List Rect = grid_cells grid.shape grid.side in
-    let plane : ℕ = length all in
-    let tier : Tier _ = tier_on stage layer grid in
-    let tiers : List (Tier _) = tiers_of shaped side input below in
-    let all_tiers : List (Tier _) = tiers_of shaped side input all in
-    let held : Held = g.C.Cache.held c.args.cache.now in
-    let wanted : List Rect = c.args.wanted.now in
     top.taken
 
 pub open_wanted-requires-clause-grid : goal.open_wanted-requires-clause-grid
@@ -125,7 +107,6 @@ open_wanted-requires-clause-grid g t c =
     let takes = g.S.Stage.takes in
     let shaped = g.S.Stage.shaped in
     let apply = g.S.Stage.apply in
-    let need = g.S.Stage.needed in
     let P : Plane = g.B.Base.plane c.args.source.now.base in
     let input : Shape = shape_of P in
     let all = c.args.stages.now in
@@ -140,13 +121,6 @@ open_wanted-requires-clause-grid g t c =
     let side : ℕ = c.args.side in
     let top = on_top takes shaped apply g.met.S.Stage.makes_shapes g.met.S.Stage.makes_planes input P side all below stage c.args.layers.now lower layer grid
     c.in-Some-split_last.ensures.cases.0 (omega (arith, c.in-Some-split_last.ensures.cases.1)) c.in-Some-split_last-2.ensures.cases.0 c.requires.layers is_input is_P c.new-grid.ensures.shape c.new-grid.ensures.side in
-    let cells : List Rect = grid_cells grid.shape grid.side in
-    let plane : ℕ = length all in
-    let tier : Tier _ = tier_on stage layer grid in
-    let tiers : List (Tier _) = tiers_of shaped side input below in
-    let all_tiers : List (Tier _) = tiers_of shaped side input all in
-    let held : Held = g.C.Cache.held c.args.cache.now in
-    let wanted : List Rect = c.args.wanted.now in
     top.grid
 
 pub open_wanted-requires-clause-sizes : goal.open_wanted-requires-clause-sizes
@@ -154,7 +128,6 @@ open_wanted-requires-clause-sizes g t c =
     let takes = g.S.Stage.takes in
     let shaped = g.S.Stage.shaped in
     let apply = g.S.Stage.apply in
-    let need = g.S.Stage.needed in
     let P : Plane = g.B.Base.plane c.args.source.now.base in
     let input : Shape = shape_of P in
     let all = c.args.stages.now in
@@ -169,13 +142,7 @@ open_wanted-requires-clause-sizes g t c =
     let side : ℕ = c.args.side in
     let top = on_top takes shaped apply g.met.S.Stage.makes_shapes g.met.S.Stage.makes_planes input P side all below stage c.args.layers.now lower layer grid
     c.in-Some-split_last.ensures.cases.0 (omega (arith, c.in-Some-split_last.ensures.cases.1)) c.in-Some-split_last-2.ensures.cases.0 c.requires.layers is_input is_P c.new-grid.ensures.shape c.new-grid.ensures.side in
-    let cells : List Rect = grid_cells grid.shape grid.side in
-    let plane : ℕ = length all in
-    let tier : Tier _ = tier_on stage layer grid in
-    let tiers : List (Tier _) = tiers_of shaped side input below in
-    let all_tiers : List (Tier _) = tiers_of shaped side input all in
     let held : Held = g.C.Cache.held c.args.cache.now in
-    let wanted : List Rect = c.args.wanted.now in
     let kept = held_on_top takes shaped apply held input P side all below stage lower layer grid top c.requires.right in
     kept.sizes
 
@@ -194,7 +161,6 @@ returns-then-is_empty-clause-whole g t c =
     let takes = g.S.Stage.takes in
     let shaped = g.S.Stage.shaped in
     let apply = g.S.Stage.apply in
-    let need = g.S.Stage.needed in
     let P : Plane = g.B.Base.plane c.args.source.now.base in
     let input : Shape = shape_of P in
     let all = c.args.stages.now in
@@ -209,13 +175,6 @@ returns-then-is_empty-clause-whole g t c =
     let side : ℕ = c.args.side in
     let top = on_top takes shaped apply g.met.S.Stage.makes_shapes g.met.S.Stage.makes_planes input P side all below stage c.args.layers.now lower layer grid
     c.in-Some-split_last.ensures.cases.0 (omega (arith, c.in-Some-split_last.ensures.cases.1)) c.in-Some-split_last-2.ensures.cases.0 c.requires.layers is_input is_P c.new-grid.ensures.shape c.new-grid.ensures.side in
-    let cells : List Rect = grid_cells grid.shape grid.side in
-    let plane : ℕ = length all in
-    let tier : Tier _ = tier_on stage layer grid in
-    let tiers : List (Tier _) = tiers_of shaped side input below in
-    let all_tiers : List (Tier _) = tiers_of shaped side input all in
-    let held : Held = g.C.Cache.held c.args.cache.now in
-    let wanted : List Rect = c.args.wanted.now in
     subst (λ (X : Plane). IsPlane X (last_shape shaped input all)) (sym top.whole) (subst (λ (t : Shape). IsPlane (apply stage (whole_of apply below P)) t) (sym top.last) top.own)
 
 pub returns-then-is_empty-clause-planes : goal.returns-then-is_empty-clause-planes
@@ -223,7 +182,6 @@ returns-then-is_empty-clause-planes g t c =
     let takes = g.S.Stage.takes in
     let shaped = g.S.Stage.shaped in
     let apply = g.S.Stage.apply in
-    let need = g.S.Stage.needed in
     let P : Plane = g.B.Base.plane c.args.source.now.base in
     let input : Shape = shape_of P in
     let all = c.args.stages.now in
@@ -238,13 +196,6 @@ returns-then-is_empty-clause-planes g t c =
     let side : ℕ = c.args.side in
     let top = on_top takes shaped apply g.met.S.Stage.makes_shapes g.met.S.Stage.makes_planes input P side all below stage c.args.layers.now lower layer grid
     c.in-Some-split_last.ensures.cases.0 (omega (arith, c.in-Some-split_last.ensures.cases.1)) c.in-Some-split_last-2.ensures.cases.0 c.requires.layers is_input is_P c.new-grid.ensures.shape c.new-grid.ensures.side in
-    let cells : List Rect = grid_cells grid.shape grid.side in
-    let plane : ℕ = length all in
-    let tier : Tier _ = tier_on stage layer grid in
-    let tiers : List (Tier _) = tiers_of shaped side input below in
-    let all_tiers : List (Tier _) = tiers_of shaped side input all in
-    let held : Held = g.C.Cache.held c.args.cache.now in
-    let wanted : List Rect = c.args.wanted.now in
     c.in_ok-open_wanted.ensures.planes ∙ ap (λ (t : Shape). t.planes) (sym top.last)
 
 pub returns-then-is_empty-clause-shows : goal.returns-then-is_empty-clause-shows
@@ -252,7 +203,6 @@ returns-then-is_empty-clause-shows g t c =
     let takes = g.S.Stage.takes in
     let shaped = g.S.Stage.shaped in
     let apply = g.S.Stage.apply in
-    let need = g.S.Stage.needed in
     let P : Plane = g.B.Base.plane c.args.source.now.base in
     let input : Shape = shape_of P in
     let all = c.args.stages.now in
@@ -269,18 +219,13 @@ returns-then-is_empty-clause-shows g t c =
     c.in-Some-split_last.ensures.cases.0 (omega (arith, c.in-Some-split_last.ensures.cases.1)) c.in-Some-split_last-2.ensures.cases.0 c.requires.layers is_input is_P c.new-grid.ensures.shape c.new-grid.ensures.side in
     let cells : List Rect = grid_cells grid.shape grid.side in
     let plane : ℕ = length all in
-    let tier : Tier _ = tier_on stage layer grid in
-    let tiers : List (Tier _) = tiers_of shaped side input below in
-    let all_tiers : List (Tier _) = tiers_of shaped side input all in
     let held : Held = g.C.Cache.held c.args.cache.now in
     let wanted : List Rect = c.args.wanted.now in
     let kept = held_on_top takes shaped apply held input P side all below stage lower layer grid top c.requires.right in
-    let opened : Held = g.C.Cache.held c.open_wanted.new.cache in
     let numbers : List ℕ = meeting cells wanted in
     let gone : List ℕ = missing held plane numbers in
     let empty : c.open_wanted.new.own.missing.items ≡ [] = none_of c.open_wanted.new.own.missing.items (omega (arith, eqb-true _ _ (sym c.is_empty.ensures ∙ c.if-is_empty.true), c.open_wanted.new.own.missing.ok)) in
     let none : gone ≡ [] = sym c.in_ok-open_wanted.ensures.missing ∙ empty in
-    let wants : needs_of held need plane tier wanted ≡ [] = ap (λ (xs : List ℕ). map (need stage layer.input) (cells_at cells xs)) none in
     let parts : All (λ (rect : Rect). IsPart rect grid.shape) wanted = subst (λ (t : Shape). All (λ (rect : Rect). IsPart rect t) wanted) top.last c.requires.wanted in
     let up = grid_makes_up grid.shape grid.side (omega (arith, grid.least)) in
     let R : Plane = apply stage (whole_of apply below P) in
@@ -318,7 +263,6 @@ returns-then-is_empty-clause-work g t c =
     let all_tiers : List (Tier _) = tiers_of shaped side input all in
     let held : Held = g.C.Cache.held c.args.cache.now in
     let wanted : List Rect = c.args.wanted.now in
-    let opened : Held = g.C.Cache.held c.open_wanted.new.cache in
     let numbers : List ℕ = meeting cells wanted in
     let gone : List ℕ = missing held plane numbers in
     let empty : c.open_wanted.new.own.missing.items ≡ [] = none_of c.open_wanted.new.own.missing.items (omega (arith, eqb-true _ _ (sym c.is_empty.ensures ∙ c.if-is_empty.true), c.open_wanted.new.own.missing.ok)) in
@@ -359,7 +303,6 @@ returns-then-is_empty-clause-count g t c =
     let all_tiers : List (Tier _) = tiers_of shaped side input all in
     let held : Held = g.C.Cache.held c.args.cache.now in
     let wanted : List Rect = c.args.wanted.now in
-    let opened : Held = g.C.Cache.held c.open_wanted.new.cache in
     let numbers : List ℕ = meeting cells wanted in
     let gone : List ℕ = missing held plane numbers in
     let empty : c.open_wanted.new.own.missing.items ≡ [] = none_of c.open_wanted.new.own.missing.items (omega (arith, eqb-true _ _ (sym c.is_empty.ensures ∙ c.if-is_empty.true), c.open_wanted.new.own.missing.ok)) in
@@ -397,7 +340,6 @@ returns-then-is_empty-clause-fetched g t c =
     let all_tiers : List (Tier _) = tiers_of shaped side input all in
     let held : Held = g.C.Cache.held c.args.cache.now in
     let wanted : List Rect = c.args.wanted.now in
-    let opened : Held = g.C.Cache.held c.open_wanted.new.cache in
     let numbers : List ℕ = meeting cells wanted in
     let gone : List ℕ = missing held plane numbers in
     let empty : c.open_wanted.new.own.missing.items ≡ [] = none_of c.open_wanted.new.own.missing.items (omega (arith, eqb-true _ _ (sym c.is_empty.ensures ∙ c.if-is_empty.true), c.open_wanted.new.own.missing.ok)) in
@@ -435,7 +377,6 @@ returns-then-is_empty-clause-ran g t c =
     let all_tiers : List (Tier _) = tiers_of shaped side input all in
     let held : Held = g.C.Cache.held c.args.cache.now in
     let wanted : List Rect = c.args.wanted.now in
-    let opened : Held = g.C.Cache.held c.open_wanted.new.cache in
     let numbers : List ℕ = meeting cells wanted in
     let gone : List ℕ = missing held plane numbers in
     let empty : c.open_wanted.new.own.missing.items ≡ [] = none_of c.open_wanted.new.own.missing.items (omega (arith, eqb-true _ _ (sym c.is_empty.ensures ∙ c.if-is_empty.true), c.open_wanted.new.own.missing.ok)) in
@@ -473,7 +414,6 @@ returns-then-is_empty-clause-kept g t c =
     let all_tiers : List (Tier _) = tiers_of shaped side input all in
     let held : Held = g.C.Cache.held c.args.cache.now in
     let wanted : List Rect = c.args.wanted.now in
-    let opened : Held = g.C.Cache.held c.open_wanted.new.cache in
     let numbers : List ℕ = meeting cells wanted in
     let gone : List ℕ = missing held plane numbers in
     let empty : c.open_wanted.new.own.missing.items ≡ [] = none_of c.open_wanted.new.own.missing.items (omega (arith, eqb-true _ _ (sym c.is_empty.ensures ∙ c.if-is_empty.true), c.open_wanted.new.own.missing.ok)) in
@@ -514,7 +454,6 @@ make-requires g t c κs within =
     let plane : ℕ = length all in
     let tier : Tier _ = tier_on stage layer grid in
     let tiers : List (Tier _) = tiers_of shaped side input below in
-    let all_tiers : List (Tier _) = tiers_of shaped side input all in
     let held : Held = g.C.Cache.held c.args.cache.now in
     let wanted : List Rect = c.args.wanted.now in
     let kept = held_on_top takes shaped apply held input P side all below stage lower layer grid top c.requires.right in
@@ -579,7 +518,6 @@ returns-in_err-make-clause-right g t c =
     let takes = g.S.Stage.takes in
     let shaped = g.S.Stage.shaped in
     let apply = g.S.Stage.apply in
-    let need = g.S.Stage.needed in
     let P : Plane = g.B.Base.plane c.args.source.now.base in
     let input : Shape = shape_of P in
     let all = c.args.stages.now in
@@ -594,20 +532,12 @@ returns-in_err-make-clause-right g t c =
     let side : ℕ = c.args.side in
     let top = on_top takes shaped apply g.met.S.Stage.makes_shapes g.met.S.Stage.makes_planes input P side all below stage c.args.layers.now lower layer grid
     c.in-Some-split_last.ensures.cases.0 (omega (arith, c.in-Some-split_last.ensures.cases.1)) c.in-Some-split_last-2.ensures.cases.0 c.requires.layers is_input is_P c.new-grid.ensures.shape c.new-grid.ensures.side in
-    let cells : List Rect = grid_cells grid.shape grid.side in
-    let plane : ℕ = length all in
     let tier : Tier _ = tier_on stage layer grid in
     let tiers : List (Tier _) = tiers_of shaped side input below in
     let all_tiers : List (Tier _) = tiers_of shaped side input all in
     let held : Held = g.C.Cache.held c.args.cache.now in
-    let wanted : List Rect = c.args.wanted.now in
     let opened : Held = g.C.Cache.held c.open_wanted.new.cache in
-    let numbers : List ℕ = meeting cells wanted in
-    let gone : List ℕ = missing held plane numbers in
     let under : Held = g.C.Cache.held c.make.new.cache in
-    let Q : Plane = whole_of apply below P in
-    let R : Plane = apply stage Q in
-    let base_cells : List Rect = g.B.Base.cells_of c.args.source.now.base in
     let lower_rights : AreRight apply under 0 P all_tiers =
     rights_lower apply held opened under P all_tiers tiers tier top.tiers c.open_wanted.ensures.held
     (subst (λ (n : ℕ). TakesUpTo opened under n) (sym (tiers_length shaped side input below)) c.make.ensures.above) c.requires.right c.make.ensures.right in
@@ -618,7 +548,6 @@ run_missing-requires-clause-shape g t c =
     let takes = g.S.Stage.takes in
     let shaped = g.S.Stage.shaped in
     let apply = g.S.Stage.apply in
-    let need = g.S.Stage.needed in
     let P : Plane = g.B.Base.plane c.args.source.now.base in
     let input : Shape = shape_of P in
     let all = c.args.stages.now in
@@ -633,13 +562,6 @@ run_missing-requires-clause-shape g t c =
     let side : ℕ = c.args.side in
     let top = on_top takes shaped apply g.met.S.Stage.makes_shapes g.met.S.Stage.makes_planes input P side all below stage c.args.layers.now lower layer grid
     c.in-Some-split_last.ensures.cases.0 (omega (arith, c.in-Some-split_last.ensures.cases.1)) c.in-Some-split_last-2.ensures.cases.0 c.requires.layers is_input is_P c.new-grid.ensures.shape c.new-grid.ensures.side in
-    let cells : List Rect = grid_cells grid.shape grid.side in
-    let plane : ℕ = length all in
-    let tier : Tier _ = tier_on stage layer grid in
-    let tiers : List (Tier _) = tiers_of shaped side input below in
-    let all_tiers : List (Tier _) = tiers_of shaped side input all in
-    let held : Held = g.C.Cache.held c.args.cache.now in
-    let wanted : List Rect = c.args.wanted.now in
     top.input
 
 pub run_missing-requires-clause-takes : goal.run_missing-requires-clause-takes
@@ -647,7 +569,6 @@ run_missing-requires-clause-takes g t c =
     let takes = g.S.Stage.takes in
     let shaped = g.S.Stage.shaped in
     let apply = g.S.Stage.apply in
-    let need = g.S.Stage.needed in
     let P : Plane = g.B.Base.plane c.args.source.now.base in
     let input : Shape = shape_of P in
     let all = c.args.stages.now in
@@ -662,13 +583,6 @@ run_missing-requires-clause-takes g t c =
     let side : ℕ = c.args.side in
     let top = on_top takes shaped apply g.met.S.Stage.makes_shapes g.met.S.Stage.makes_planes input P side all below stage c.args.layers.now lower layer grid
     c.in-Some-split_last.ensures.cases.0 (omega (arith, c.in-Some-split_last.ensures.cases.1)) c.in-Some-split_last-2.ensures.cases.0 c.requires.layers is_input is_P c.new-grid.ensures.shape c.new-grid.ensures.side in
-    let cells : List Rect = grid_cells grid.shape grid.side in
-    let plane : ℕ = length all in
-    let tier : Tier _ = tier_on stage layer grid in
-    let tiers : List (Tier _) = tiers_of shaped side input below in
-    let all_tiers : List (Tier _) = tiers_of shaped side input all in
-    let held : Held = g.C.Cache.held c.args.cache.now in
-    let wanted : List Rect = c.args.wanted.now in
     top.taken
 
 pub run_missing-requires-clause-grid : goal.run_missing-requires-clause-grid
@@ -676,7 +590,6 @@ run_missing-requires-clause-grid g t c =
     let takes = g.S.Stage.takes in
     let shaped = g.S.Stage.shaped in
     let apply = g.S.Stage.apply in
-    let need = g.S.Stage.needed in
     let P : Plane = g.B.Base.plane c.args.source.now.base in
     let input : Shape = shape_of P in
     let all = c.args.stages.now in
@@ -691,43 +604,16 @@ run_missing-requires-clause-grid g t c =
     let side : ℕ = c.args.side in
     let top = on_top takes shaped apply g.met.S.Stage.makes_shapes g.met.S.Stage.makes_planes input P side all below stage c.args.layers.now lower layer grid
     c.in-Some-split_last.ensures.cases.0 (omega (arith, c.in-Some-split_last.ensures.cases.1)) c.in-Some-split_last-2.ensures.cases.0 c.requires.layers is_input is_P c.new-grid.ensures.shape c.new-grid.ensures.side in
-    let cells : List Rect = grid_cells grid.shape grid.side in
-    let plane : ℕ = length all in
-    let tier : Tier _ = tier_on stage layer grid in
-    let tiers : List (Tier _) = tiers_of shaped side input below in
-    let all_tiers : List (Tier _) = tiers_of shaped side input all in
-    let held : Held = g.C.Cache.held c.args.cache.now in
-    let wanted : List Rect = c.args.wanted.now in
     top.grid
 
 pub run_missing-requires-clause-numbers : goal.run_missing-requires-clause-numbers
 run_missing-requires-clause-numbers g t c =
-    let takes = g.S.Stage.takes in
-    let shaped = g.S.Stage.shaped in
-    let apply = g.S.Stage.apply in
-    let need = g.S.Stage.needed in
-    let P : Plane = g.B.Base.plane c.args.source.now.base in
-    let input : Shape = shape_of P in
     let all = c.args.stages.now in
-    let stage = c.in-Some-split_last.stage.now in
-    let below = c.in-Some-split_last.below.now in
-    let layer : Layer = c.in-Some-split_last-2.layer.now in
-    let lower : List Layer = c.in-Some-split_last-2.lower_layers.now in
-    let same_input : input ≡ c.shape-shape.result = shape_is P c.shape-shape.result c.shape-shape.ensures.plane in
-    let is_input : IsShape input = subst IsShape (sym same_input) c.shape-shape.ensures.shape in
-    let is_P : IsPlane P input = subst (λ (t : Shape). IsPlane P t) (sym same_input) c.shape-shape.ensures.plane in
     let grid : Grid = c.new-grid.result in
-    let side : ℕ = c.args.side in
-    let top = on_top takes shaped apply g.met.S.Stage.makes_shapes g.met.S.Stage.makes_planes input P side all below stage c.args.layers.now lower layer grid
-    c.in-Some-split_last.ensures.cases.0 (omega (arith, c.in-Some-split_last.ensures.cases.1)) c.in-Some-split_last-2.ensures.cases.0 c.requires.layers is_input is_P c.new-grid.ensures.shape c.new-grid.ensures.side in
     let cells : List Rect = grid_cells grid.shape grid.side in
     let plane : ℕ = length all in
-    let tier : Tier _ = tier_on stage layer grid in
-    let tiers : List (Tier _) = tiers_of shaped side input below in
-    let all_tiers : List (Tier _) = tiers_of shaped side input all in
     let held : Held = g.C.Cache.held c.args.cache.now in
     let wanted : List Rect = c.args.wanted.now in
-    let opened : Held = g.C.Cache.held c.open_wanted.new.cache in
     let numbers : List ℕ = meeting cells wanted in
     let gone : List ℕ = missing held plane numbers in
     let rest : c.deref-2.result.now ≡ gone = c.deref-2.ensures.value ∙ c.in_ok-open_wanted.ensures.missing in
@@ -735,32 +621,12 @@ run_missing-requires-clause-numbers g t c =
 
 pub run_missing-requires-clause-inside : goal.run_missing-requires-clause-inside
 run_missing-requires-clause-inside g t c =
-    let takes = g.S.Stage.takes in
-    let shaped = g.S.Stage.shaped in
-    let apply = g.S.Stage.apply in
-    let need = g.S.Stage.needed in
-    let P : Plane = g.B.Base.plane c.args.source.now.base in
-    let input : Shape = shape_of P in
     let all = c.args.stages.now in
-    let stage = c.in-Some-split_last.stage.now in
-    let below = c.in-Some-split_last.below.now in
-    let layer : Layer = c.in-Some-split_last-2.layer.now in
-    let lower : List Layer = c.in-Some-split_last-2.lower_layers.now in
-    let same_input : input ≡ c.shape-shape.result = shape_is P c.shape-shape.result c.shape-shape.ensures.plane in
-    let is_input : IsShape input = subst IsShape (sym same_input) c.shape-shape.ensures.shape in
-    let is_P : IsPlane P input = subst (λ (t : Shape). IsPlane P t) (sym same_input) c.shape-shape.ensures.plane in
     let grid : Grid = c.new-grid.result in
-    let side : ℕ = c.args.side in
-    let top = on_top takes shaped apply g.met.S.Stage.makes_shapes g.met.S.Stage.makes_planes input P side all below stage c.args.layers.now lower layer grid
-    c.in-Some-split_last.ensures.cases.0 (omega (arith, c.in-Some-split_last.ensures.cases.1)) c.in-Some-split_last-2.ensures.cases.0 c.requires.layers is_input is_P c.new-grid.ensures.shape c.new-grid.ensures.side in
     let cells : List Rect = grid_cells grid.shape grid.side in
     let plane : ℕ = length all in
-    let tier : Tier _ = tier_on stage layer grid in
-    let tiers : List (Tier _) = tiers_of shaped side input below in
-    let all_tiers : List (Tier _) = tiers_of shaped side input all in
     let held : Held = g.C.Cache.held c.args.cache.now in
     let wanted : List Rect = c.args.wanted.now in
-    let opened : Held = g.C.Cache.held c.open_wanted.new.cache in
     let numbers : List ℕ = meeting cells wanted in
     let gone : List ℕ = missing held plane numbers in
     let rest : c.deref-2.result.now ≡ gone = c.deref-2.ensures.value ∙ c.in_ok-open_wanted.ensures.missing in
@@ -769,41 +635,25 @@ run_missing-requires-clause-inside g t c =
 
 pub run_missing-requires-clause-needs : goal.run_missing-requires-clause-needs
 run_missing-requires-clause-needs g t c =
-    let takes = g.S.Stage.takes in
-    let shaped = g.S.Stage.shaped in
     let apply = g.S.Stage.apply in
     let need = g.S.Stage.needed in
     let P : Plane = g.B.Base.plane c.args.source.now.base in
-    let input : Shape = shape_of P in
     let all = c.args.stages.now in
     let stage = c.in-Some-split_last.stage.now in
     let below = c.in-Some-split_last.below.now in
     let layer : Layer = c.in-Some-split_last-2.layer.now in
-    let lower : List Layer = c.in-Some-split_last-2.lower_layers.now in
-    let same_input : input ≡ c.shape-shape.result = shape_is P c.shape-shape.result c.shape-shape.ensures.plane in
-    let is_input : IsShape input = subst IsShape (sym same_input) c.shape-shape.ensures.shape in
-    let is_P : IsPlane P input = subst (λ (t : Shape). IsPlane P t) (sym same_input) c.shape-shape.ensures.plane in
     let grid : Grid = c.new-grid.result in
-    let side : ℕ = c.args.side in
-    let top = on_top takes shaped apply g.met.S.Stage.makes_shapes g.met.S.Stage.makes_planes input P side all below stage c.args.layers.now lower layer grid
-    c.in-Some-split_last.ensures.cases.0 (omega (arith, c.in-Some-split_last.ensures.cases.1)) c.in-Some-split_last-2.ensures.cases.0 c.requires.layers is_input is_P c.new-grid.ensures.shape c.new-grid.ensures.side in
     let cells : List Rect = grid_cells grid.shape grid.side in
     let plane : ℕ = length all in
     let tier : Tier _ = tier_on stage layer grid in
-    let tiers : List (Tier _) = tiers_of shaped side input below in
-    let all_tiers : List (Tier _) = tiers_of shaped side input all in
     let held : Held = g.C.Cache.held c.args.cache.now in
     let wanted : List Rect = c.args.wanted.now in
-    let opened : Held = g.C.Cache.held c.open_wanted.new.cache in
     let numbers : List ℕ = meeting cells wanted in
     let gone : List ℕ = missing held plane numbers in
     let needs : List Rect = needs_of held need plane tier wanted in
     let lent : c.deref.result.now ≡ needs = c.deref.ensures.value ∙ c.in_ok-open_wanted.ensures.needs in
     let rest : c.deref-2.result.now ≡ gone = c.deref-2.ensures.value ∙ c.in_ok-open_wanted.ensures.missing in
-    let under : Held = g.C.Cache.held c.make.new.cache in
     let Q : Plane = whole_of apply below P in
-    let R : Plane = apply stage Q in
-    let base_cells : List Rect = g.B.Base.cells_of c.args.source.now.base in
     let f : Rect → Rect = need stage layer.input in
     let lent_part : Lent = c.make.new.patch in
     let view : c.view.result ≡ lent_part = c.view.ensures in
@@ -817,7 +667,6 @@ run_missing-requires-clause-lower g t c =
     let takes = g.S.Stage.takes in
     let shaped = g.S.Stage.shaped in
     let apply = g.S.Stage.apply in
-    let need = g.S.Stage.needed in
     let P : Plane = g.B.Base.plane c.args.source.now.base in
     let input : Shape = shape_of P in
     let all = c.args.stages.now in
@@ -832,43 +681,16 @@ run_missing-requires-clause-lower g t c =
     let side : ℕ = c.args.side in
     let top = on_top takes shaped apply g.met.S.Stage.makes_shapes g.met.S.Stage.makes_planes input P side all below stage c.args.layers.now lower layer grid
     c.in-Some-split_last.ensures.cases.0 (omega (arith, c.in-Some-split_last.ensures.cases.1)) c.in-Some-split_last-2.ensures.cases.0 c.requires.layers is_input is_P c.new-grid.ensures.shape c.new-grid.ensures.side in
-    let cells : List Rect = grid_cells grid.shape grid.side in
-    let plane : ℕ = length all in
-    let tier : Tier _ = tier_on stage layer grid in
-    let tiers : List (Tier _) = tiers_of shaped side input below in
-    let all_tiers : List (Tier _) = tiers_of shaped side input all in
-    let held : Held = g.C.Cache.held c.args.cache.now in
-    let wanted : List Rect = c.args.wanted.now in
     ap (λ (V : Lent). V.planes) c.view.ensures ∙ c.in_ok-make.ensures.planes ∙ ap (λ (t : Shape). t.planes) (sym top.low)
 
 pub run_missing-requires-clause-rising : goal.run_missing-requires-clause-rising
 run_missing-requires-clause-rising g t c =
-    let takes = g.S.Stage.takes in
-    let shaped = g.S.Stage.shaped in
-    let apply = g.S.Stage.apply in
-    let need = g.S.Stage.needed in
-    let P : Plane = g.B.Base.plane c.args.source.now.base in
-    let input : Shape = shape_of P in
     let all = c.args.stages.now in
-    let stage = c.in-Some-split_last.stage.now in
-    let below = c.in-Some-split_last.below.now in
-    let layer : Layer = c.in-Some-split_last-2.layer.now in
-    let lower : List Layer = c.in-Some-split_last-2.lower_layers.now in
-    let same_input : input ≡ c.shape-shape.result = shape_is P c.shape-shape.result c.shape-shape.ensures.plane in
-    let is_input : IsShape input = subst IsShape (sym same_input) c.shape-shape.ensures.shape in
-    let is_P : IsPlane P input = subst (λ (t : Shape). IsPlane P t) (sym same_input) c.shape-shape.ensures.plane in
     let grid : Grid = c.new-grid.result in
-    let side : ℕ = c.args.side in
-    let top = on_top takes shaped apply g.met.S.Stage.makes_shapes g.met.S.Stage.makes_planes input P side all below stage c.args.layers.now lower layer grid
-    c.in-Some-split_last.ensures.cases.0 (omega (arith, c.in-Some-split_last.ensures.cases.1)) c.in-Some-split_last-2.ensures.cases.0 c.requires.layers is_input is_P c.new-grid.ensures.shape c.new-grid.ensures.side in
     let cells : List Rect = grid_cells grid.shape grid.side in
     let plane : ℕ = length all in
-    let tier : Tier _ = tier_on stage layer grid in
-    let tiers : List (Tier _) = tiers_of shaped side input below in
-    let all_tiers : List (Tier _) = tiers_of shaped side input all in
     let held : Held = g.C.Cache.held c.args.cache.now in
     let wanted : List Rect = c.args.wanted.now in
-    let opened : Held = g.C.Cache.held c.open_wanted.new.cache in
     let numbers : List ℕ = meeting cells wanted in
     let gone : List ℕ = missing held plane numbers in
     let rest : c.deref-2.result.now ≡ gone = c.deref-2.ensures.value ∙ c.in_ok-open_wanted.ensures.missing in
@@ -876,39 +698,17 @@ run_missing-requires-clause-rising g t c =
 
 pub run_missing-requires-clause-absent : goal.run_missing-requires-clause-absent
 run_missing-requires-clause-absent g t c =
-    let takes = g.S.Stage.takes in
-    let shaped = g.S.Stage.shaped in
-    let apply = g.S.Stage.apply in
-    let need = g.S.Stage.needed in
-    let P : Plane = g.B.Base.plane c.args.source.now.base in
-    let input : Shape = shape_of P in
     let all = c.args.stages.now in
-    let stage = c.in-Some-split_last.stage.now in
     let below = c.in-Some-split_last.below.now in
-    let layer : Layer = c.in-Some-split_last-2.layer.now in
-    let lower : List Layer = c.in-Some-split_last-2.lower_layers.now in
-    let same_input : input ≡ c.shape-shape.result = shape_is P c.shape-shape.result c.shape-shape.ensures.plane in
-    let is_input : IsShape input = subst IsShape (sym same_input) c.shape-shape.ensures.shape in
-    let is_P : IsPlane P input = subst (λ (t : Shape). IsPlane P t) (sym same_input) c.shape-shape.ensures.plane in
     let grid : Grid = c.new-grid.result in
-    let side : ℕ = c.args.side in
-    let top = on_top takes shaped apply g.met.S.Stage.makes_shapes g.met.S.Stage.makes_planes input P side all below stage c.args.layers.now lower layer grid
-    c.in-Some-split_last.ensures.cases.0 (omega (arith, c.in-Some-split_last.ensures.cases.1)) c.in-Some-split_last-2.ensures.cases.0 c.requires.layers is_input is_P c.new-grid.ensures.shape c.new-grid.ensures.side in
     let cells : List Rect = grid_cells grid.shape grid.side in
     let plane : ℕ = length all in
-    let tier : Tier _ = tier_on stage layer grid in
-    let tiers : List (Tier _) = tiers_of shaped side input below in
-    let all_tiers : List (Tier _) = tiers_of shaped side input all in
     let held : Held = g.C.Cache.held c.args.cache.now in
     let wanted : List Rect = c.args.wanted.now in
-    let opened : Held = g.C.Cache.held c.open_wanted.new.cache in
     let numbers : List ℕ = meeting cells wanted in
     let gone : List ℕ = missing held plane numbers in
     let rest : c.deref-2.result.now ≡ gone = c.deref-2.ensures.value ∙ c.in_ok-open_wanted.ensures.missing in
     let under : Held = g.C.Cache.held c.make.new.cache in
-    let Q : Plane = whole_of apply below P in
-    let R : Plane = apply stage Q in
-    let base_cells : List Rect = g.B.Base.cells_of c.args.source.now.base in
     let long : length below < plane = omega (arith, c.in-Some-split_last.ensures.cases.1) in
     subst (λ (xs : List ℕ). All (λ k. under.holds plane k ≡ false) xs) (sym rest)
     (absent_later held under plane numbers (λ k now. sym (c.open_wanted.ensures.held.holds plane k) ∙ (c.make.ensures.above.above plane k long now).0))
@@ -948,8 +748,6 @@ returns-in_err-run_missing-clause-right g t c =
     let rest : c.deref-2.result.now ≡ gone = c.deref-2.ensures.value ∙ c.in_ok-open_wanted.ensures.missing in
     let under : Held = g.C.Cache.held c.make.new.cache in
     let Q : Plane = whole_of apply below P in
-    let R : Plane = apply stage Q in
-    let base_cells : List Rect = g.B.Base.cells_of c.args.source.now.base in
     let f : Rect → Rect = need stage layer.input in
     let lent_part : Lent = c.make.new.patch in
     let view : c.view.result ≡ lent_part = c.view.ensures in
@@ -1001,8 +799,6 @@ returns-clause-right g t c =
     let rest : c.deref-2.result.now ≡ gone = c.deref-2.ensures.value ∙ c.in_ok-open_wanted.ensures.missing in
     let under : Held = g.C.Cache.held c.make.new.cache in
     let Q : Plane = whole_of apply below P in
-    let R : Plane = apply stage Q in
-    let base_cells : List Rect = g.B.Base.cells_of c.args.source.now.base in
     let f : Rect → Rect = need stage layer.input in
     let lent_part : Lent = c.make.new.patch in
     let view : c.view.result ≡ lent_part = c.view.ensures in
@@ -1021,75 +817,23 @@ returns-clause-right g t c =
 
 pub returns-in_err-run_missing-clause-above : goal.returns-in_err-run_missing-clause-above
 returns-in_err-run_missing-clause-above g t c =
-    let takes = g.S.Stage.takes in
-    let shaped = g.S.Stage.shaped in
-    let apply = g.S.Stage.apply in
-    let need = g.S.Stage.needed in
-    let P : Plane = g.B.Base.plane c.args.source.now.base in
-    let input : Shape = shape_of P in
     let all = c.args.stages.now in
-    let stage = c.in-Some-split_last.stage.now in
     let below = c.in-Some-split_last.below.now in
-    let layer : Layer = c.in-Some-split_last-2.layer.now in
-    let lower : List Layer = c.in-Some-split_last-2.lower_layers.now in
-    let same_input : input ≡ c.shape-shape.result = shape_is P c.shape-shape.result c.shape-shape.ensures.plane in
-    let is_input : IsShape input = subst IsShape (sym same_input) c.shape-shape.ensures.shape in
-    let is_P : IsPlane P input = subst (λ (t : Shape). IsPlane P t) (sym same_input) c.shape-shape.ensures.plane in
-    let grid : Grid = c.new-grid.result in
-    let side : ℕ = c.args.side in
-    let top = on_top takes shaped apply g.met.S.Stage.makes_shapes g.met.S.Stage.makes_planes input P side all below stage c.args.layers.now lower layer grid
-    c.in-Some-split_last.ensures.cases.0 (omega (arith, c.in-Some-split_last.ensures.cases.1)) c.in-Some-split_last-2.ensures.cases.0 c.requires.layers is_input is_P c.new-grid.ensures.shape c.new-grid.ensures.side in
-    let cells : List Rect = grid_cells grid.shape grid.side in
     let plane : ℕ = length all in
-    let tier : Tier _ = tier_on stage layer grid in
-    let tiers : List (Tier _) = tiers_of shaped side input below in
-    let all_tiers : List (Tier _) = tiers_of shaped side input all in
     let held : Held = g.C.Cache.held c.args.cache.now in
-    let wanted : List Rect = c.args.wanted.now in
     let opened : Held = g.C.Cache.held c.open_wanted.new.cache in
-    let numbers : List ℕ = meeting cells wanted in
-    let gone : List ℕ = missing held plane numbers in
     let under : Held = g.C.Cache.held c.make.new.cache in
-    let Q : Plane = whole_of apply below P in
-    let R : Plane = apply stage Q in
-    let base_cells : List Rect = g.B.Base.cells_of c.args.source.now.base in
     let long : length below ≤ plane = omega (arith, c.in-Some-split_last.ensures.cases.1) in
     takes_run held under (g.C.Cache.held c.run_missing.new.cache) plane (takes_lower held opened under (length below) plane c.open_wanted.ensures.held c.make.ensures.above long) c.run_missing.ensures.others
 
 pub returns-clause-above : goal.returns-clause-above
 returns-clause-above g t c =
-    let takes = g.S.Stage.takes in
-    let shaped = g.S.Stage.shaped in
-    let apply = g.S.Stage.apply in
-    let need = g.S.Stage.needed in
-    let P : Plane = g.B.Base.plane c.args.source.now.base in
-    let input : Shape = shape_of P in
     let all = c.args.stages.now in
-    let stage = c.in-Some-split_last.stage.now in
     let below = c.in-Some-split_last.below.now in
-    let layer : Layer = c.in-Some-split_last-2.layer.now in
-    let lower : List Layer = c.in-Some-split_last-2.lower_layers.now in
-    let same_input : input ≡ c.shape-shape.result = shape_is P c.shape-shape.result c.shape-shape.ensures.plane in
-    let is_input : IsShape input = subst IsShape (sym same_input) c.shape-shape.ensures.shape in
-    let is_P : IsPlane P input = subst (λ (t : Shape). IsPlane P t) (sym same_input) c.shape-shape.ensures.plane in
-    let grid : Grid = c.new-grid.result in
-    let side : ℕ = c.args.side in
-    let top = on_top takes shaped apply g.met.S.Stage.makes_shapes g.met.S.Stage.makes_planes input P side all below stage c.args.layers.now lower layer grid
-    c.in-Some-split_last.ensures.cases.0 (omega (arith, c.in-Some-split_last.ensures.cases.1)) c.in-Some-split_last-2.ensures.cases.0 c.requires.layers is_input is_P c.new-grid.ensures.shape c.new-grid.ensures.side in
-    let cells : List Rect = grid_cells grid.shape grid.side in
     let plane : ℕ = length all in
-    let tier : Tier _ = tier_on stage layer grid in
-    let tiers : List (Tier _) = tiers_of shaped side input below in
-    let all_tiers : List (Tier _) = tiers_of shaped side input all in
     let held : Held = g.C.Cache.held c.args.cache.now in
-    let wanted : List Rect = c.args.wanted.now in
     let opened : Held = g.C.Cache.held c.open_wanted.new.cache in
-    let numbers : List ℕ = meeting cells wanted in
-    let gone : List ℕ = missing held plane numbers in
     let under : Held = g.C.Cache.held c.make.new.cache in
-    let Q : Plane = whole_of apply below P in
-    let R : Plane = apply stage Q in
-    let base_cells : List Rect = g.B.Base.cells_of c.args.source.now.base in
     let long : length below ≤ plane = omega (arith, c.in-Some-split_last.ensures.cases.1) in
     takes_run held under (g.C.Cache.held c.run_missing.new.cache) plane (takes_lower held opened under (length below) plane c.open_wanted.ensures.held c.make.ensures.above long) c.run_missing.ensures.others
 
@@ -1098,7 +842,6 @@ returns-clause-whole g t c =
     let takes = g.S.Stage.takes in
     let shaped = g.S.Stage.shaped in
     let apply = g.S.Stage.apply in
-    let need = g.S.Stage.needed in
     let P : Plane = g.B.Base.plane c.args.source.now.base in
     let input : Shape = shape_of P in
     let all = c.args.stages.now in
@@ -1113,13 +856,6 @@ returns-clause-whole g t c =
     let side : ℕ = c.args.side in
     let top = on_top takes shaped apply g.met.S.Stage.makes_shapes g.met.S.Stage.makes_planes input P side all below stage c.args.layers.now lower layer grid
     c.in-Some-split_last.ensures.cases.0 (omega (arith, c.in-Some-split_last.ensures.cases.1)) c.in-Some-split_last-2.ensures.cases.0 c.requires.layers is_input is_P c.new-grid.ensures.shape c.new-grid.ensures.side in
-    let cells : List Rect = grid_cells grid.shape grid.side in
-    let plane : ℕ = length all in
-    let tier : Tier _ = tier_on stage layer grid in
-    let tiers : List (Tier _) = tiers_of shaped side input below in
-    let all_tiers : List (Tier _) = tiers_of shaped side input all in
-    let held : Held = g.C.Cache.held c.args.cache.now in
-    let wanted : List Rect = c.args.wanted.now in
     subst (λ (X : Plane). IsPlane X (last_shape shaped input all)) (sym top.whole) (subst (λ (t : Shape). IsPlane (apply stage (whole_of apply below P)) t) (sym top.last) top.own)
 
 pub returns-clause-planes : goal.returns-clause-planes
@@ -1127,7 +863,6 @@ returns-clause-planes g t c =
     let takes = g.S.Stage.takes in
     let shaped = g.S.Stage.shaped in
     let apply = g.S.Stage.apply in
-    let need = g.S.Stage.needed in
     let P : Plane = g.B.Base.plane c.args.source.now.base in
     let input : Shape = shape_of P in
     let all = c.args.stages.now in
@@ -1142,13 +877,6 @@ returns-clause-planes g t c =
     let side : ℕ = c.args.side in
     let top = on_top takes shaped apply g.met.S.Stage.makes_shapes g.met.S.Stage.makes_planes input P side all below stage c.args.layers.now lower layer grid
     c.in-Some-split_last.ensures.cases.0 (omega (arith, c.in-Some-split_last.ensures.cases.1)) c.in-Some-split_last-2.ensures.cases.0 c.requires.layers is_input is_P c.new-grid.ensures.shape c.new-grid.ensures.side in
-    let cells : List Rect = grid_cells grid.shape grid.side in
-    let plane : ℕ = length all in
-    let tier : Tier _ = tier_on stage layer grid in
-    let tiers : List (Tier _) = tiers_of shaped side input below in
-    let all_tiers : List (Tier _) = tiers_of shaped side input all in
-    let held : Held = g.C.Cache.held c.args.cache.now in
-    let wanted : List Rect = c.args.wanted.now in
     c.run_missing.ensures.planes ∙ c.in_ok-open_wanted.ensures.planes ∙ ap (λ (t : Shape). t.planes) (sym top.last)
 
 pub returns-clause-shows : goal.returns-clause-shows
@@ -1174,21 +902,16 @@ returns-clause-shows g t c =
     let cells : List Rect = grid_cells grid.shape grid.side in
     let plane : ℕ = length all in
     let tier : Tier _ = tier_on stage layer grid in
-    let tiers : List (Tier _) = tiers_of shaped side input below in
-    let all_tiers : List (Tier _) = tiers_of shaped side input all in
     let held : Held = g.C.Cache.held c.args.cache.now in
     let wanted : List Rect = c.args.wanted.now in
     let kept = held_on_top takes shaped apply held input P side all below stage lower layer grid top c.requires.right in
-    let opened : Held = g.C.Cache.held c.open_wanted.new.cache in
     let numbers : List ℕ = meeting cells wanted in
     let gone : List ℕ = missing held plane numbers in
     let needs : List Rect = needs_of held need plane tier wanted in
     let lent : c.deref.result.now ≡ needs = c.deref.ensures.value ∙ c.in_ok-open_wanted.ensures.needs in
     let rest : c.deref-2.result.now ≡ gone = c.deref-2.ensures.value ∙ c.in_ok-open_wanted.ensures.missing in
-    let under : Held = g.C.Cache.held c.make.new.cache in
     let Q : Plane = whole_of apply below P in
     let R : Plane = apply stage Q in
-    let base_cells : List Rect = g.B.Base.cells_of c.args.source.now.base in
     let f : Rect → Rect = need stage layer.input in
     let lent_part : Lent = c.make.new.patch in
     let view : c.view.result ≡ lent_part = c.view.ensures in
@@ -1241,9 +964,6 @@ returns-clause-work g t c =
     let needs : List Rect = needs_of held need plane tier wanted in
     let lent : c.deref.result.now ≡ needs = c.deref.ensures.value ∙ c.in_ok-open_wanted.ensures.needs in
     let rest : c.deref-2.result.now ≡ gone = c.deref-2.ensures.value ∙ c.in_ok-open_wanted.ensures.missing in
-    let under : Held = g.C.Cache.held c.make.new.cache in
-    let Q : Plane = whole_of apply below P in
-    let R : Plane = apply stage Q in
     let base_cells : List Rect = g.B.Base.cells_of c.args.source.now.base in
     let fetches : count_of_fetches held need base_cells all_tiers wanted ≡ count_of_fetches opened need base_cells tiers c.deref.result.now =
     fetches_top held need base_cells all_tiers tiers tier wanted plane top.tiers top.plane ∙ ap (λ (xs : List Rect). count_of_fetches held need base_cells tiers xs) (sym lent) ∙ sym (fetches_same held opened need base_cells tiers c.deref.result.now c.open_wanted.ensures.held.holds) in
@@ -1272,7 +992,6 @@ returns-clause-count g t c =
     let side : ℕ = c.args.side in
     let top = on_top takes shaped apply g.met.S.Stage.makes_shapes g.met.S.Stage.makes_planes input P side all below stage c.args.layers.now lower layer grid
     c.in-Some-split_last.ensures.cases.0 (omega (arith, c.in-Some-split_last.ensures.cases.1)) c.in-Some-split_last-2.ensures.cases.0 c.requires.layers is_input is_P c.new-grid.ensures.shape c.new-grid.ensures.side in
-    let cells : List Rect = grid_cells grid.shape grid.side in
     let plane : ℕ = length all in
     let tier : Tier _ = tier_on stage layer grid in
     let tiers : List (Tier _) = tiers_of shaped side input below in
@@ -1280,14 +999,8 @@ returns-clause-count g t c =
     let held : Held = g.C.Cache.held c.args.cache.now in
     let wanted : List Rect = c.args.wanted.now in
     let opened : Held = g.C.Cache.held c.open_wanted.new.cache in
-    let numbers : List ℕ = meeting cells wanted in
-    let gone : List ℕ = missing held plane numbers in
     let needs : List Rect = needs_of held need plane tier wanted in
     let lent : c.deref.result.now ≡ needs = c.deref.ensures.value ∙ c.in_ok-open_wanted.ensures.needs in
-    let rest : c.deref-2.result.now ≡ gone = c.deref-2.ensures.value ∙ c.in_ok-open_wanted.ensures.missing in
-    let under : Held = g.C.Cache.held c.make.new.cache in
-    let Q : Plane = whole_of apply below P in
-    let R : Plane = apply stage Q in
     let base_cells : List Rect = g.B.Base.cells_of c.args.source.now.base in
     let fetches : count_of_fetches held need base_cells all_tiers wanted ≡ count_of_fetches opened need base_cells tiers c.deref.result.now =
     fetches_top held need base_cells all_tiers tiers tier wanted plane top.tiers top.plane ∙ ap (λ (xs : List Rect). count_of_fetches held need base_cells tiers xs) (sym lent) ∙ sym (fetches_same held opened need base_cells tiers c.deref.result.now c.open_wanted.ensures.held.holds) in
@@ -1313,7 +1026,6 @@ returns-clause-fetched g t c =
     let side : ℕ = c.args.side in
     let top = on_top takes shaped apply g.met.S.Stage.makes_shapes g.met.S.Stage.makes_planes input P side all below stage c.args.layers.now lower layer grid
     c.in-Some-split_last.ensures.cases.0 (omega (arith, c.in-Some-split_last.ensures.cases.1)) c.in-Some-split_last-2.ensures.cases.0 c.requires.layers is_input is_P c.new-grid.ensures.shape c.new-grid.ensures.side in
-    let cells : List Rect = grid_cells grid.shape grid.side in
     let plane : ℕ = length all in
     let tier : Tier _ = tier_on stage layer grid in
     let tiers : List (Tier _) = tiers_of shaped side input below in
@@ -1321,14 +1033,8 @@ returns-clause-fetched g t c =
     let held : Held = g.C.Cache.held c.args.cache.now in
     let wanted : List Rect = c.args.wanted.now in
     let opened : Held = g.C.Cache.held c.open_wanted.new.cache in
-    let numbers : List ℕ = meeting cells wanted in
-    let gone : List ℕ = missing held plane numbers in
     let needs : List Rect = needs_of held need plane tier wanted in
     let lent : c.deref.result.now ≡ needs = c.deref.ensures.value ∙ c.in_ok-open_wanted.ensures.needs in
-    let rest : c.deref-2.result.now ≡ gone = c.deref-2.ensures.value ∙ c.in_ok-open_wanted.ensures.missing in
-    let under : Held = g.C.Cache.held c.make.new.cache in
-    let Q : Plane = whole_of apply below P in
-    let R : Plane = apply stage Q in
     let base_cells : List Rect = g.B.Base.cells_of c.args.source.now.base in
     let fetches : count_of_fetches held need base_cells all_tiers wanted ≡ count_of_fetches opened need base_cells tiers c.deref.result.now =
     fetches_top held need base_cells all_tiers tiers tier wanted plane top.tiers top.plane ∙ ap (λ (xs : List Rect). count_of_fetches held need base_cells tiers xs) (sym lent) ∙ sym (fetches_same held opened need base_cells tiers c.deref.result.now c.open_wanted.ensures.held.holds) in
@@ -1366,11 +1072,6 @@ returns-clause-ran g t c =
     let gone : List ℕ = missing held plane numbers in
     let needs : List Rect = needs_of held need plane tier wanted in
     let lent : c.deref.result.now ≡ needs = c.deref.ensures.value ∙ c.in_ok-open_wanted.ensures.needs in
-    let rest : c.deref-2.result.now ≡ gone = c.deref-2.ensures.value ∙ c.in_ok-open_wanted.ensures.missing in
-    let under : Held = g.C.Cache.held c.make.new.cache in
-    let Q : Plane = whole_of apply below P in
-    let R : Plane = apply stage Q in
-    let base_cells : List Rect = g.B.Base.cells_of c.args.source.now.base in
     let runs : count_of_runs held need 0 all_tiers wanted ≡ count_of_runs opened need 0 tiers c.deref.result.now + length gone =
     runs_top held need all_tiers tiers tier wanted plane top.tiers top.plane
     ∙ ap (λ n. n + length gone) (ap (λ (xs : List Rect). count_of_runs held need 0 tiers xs) (sym lent) ∙ sym (runs_same held opened need 0 tiers c.deref.result.now c.open_wanted.ensures.held.holds)) in
@@ -1410,9 +1111,6 @@ returns-clause-kept g t c =
     let needs : List Rect = needs_of held need plane tier wanted in
     let lent : c.deref.result.now ≡ needs = c.deref.ensures.value ∙ c.in_ok-open_wanted.ensures.needs in
     let rest : c.deref-2.result.now ≡ gone = c.deref-2.ensures.value ∙ c.in_ok-open_wanted.ensures.missing in
-    let under : Held = g.C.Cache.held c.make.new.cache in
-    let Q : Plane = whole_of apply below P in
-    let R : Plane = apply stage Q in
     let base_cells : List Rect = g.B.Base.cells_of c.args.source.now.base in
     let planes : ℕ = P.planes in
     let size : ℕ → ℕ = size_of cells grid.shape.planes in

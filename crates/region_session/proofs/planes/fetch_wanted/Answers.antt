@@ -40,7 +40,6 @@ rects_of-requires g c =
 
 pub reset-requires : goal.reset-requires
 reset-requires g c =
-    let P : Plane = g.B.Base.plane c.args.source.now.base in
     let shape : Shape = c.shape-shape.result in
     let cells : List Rect = g.B.Base.cells_of c.args.source.now.base in
     let wanted : List Rect = c.args.wanted.now in
@@ -52,7 +51,6 @@ reset-requires g c =
 pub copy_fresh-requires-clause-sizes : goal.copy_fresh-requires-clause-sizes
 copy_fresh-requires-clause-sizes g c =
     let P : Plane = g.B.Base.plane c.args.source.now.base in
-    let shape : Shape = c.shape-shape.result in
     let cells : List Rect = g.B.Base.cells_of c.args.source.now.base in
     let wanted : List Rect = c.args.wanted.now in
     let held : Held = g.C.Cache.held c.args.cache.now in

@@ -77,7 +77,6 @@ invariant_of-self g c =
     let within : k ≤ length stages = subst (λ (v : _). k ≤ length v.stages) (sym c.self.view_is) c.requires.most in
     let many = as_many takes shaped input stages s.layers.items c.self.invariant.stand in
     let at : slice_get s.layers.items (k - 1) ≡ Some layer = slice_get_read s.layers.items (length s.layers.items) (k - 1) layer refl (omega (arith, many, within, c.requires.least, s.layers.ok)) c.index.ensures in
-    let of = layer_of takes shaped input stages s.layers.items k layer c.self.invariant.stand c.requires.least within at in
     let got : c.shape-got.result ≡ Some layer.shape = search rules in
     let over : IsShapeOver takes shaped c.args.stage layer.input c.shape-got.result = shape_over takes shaped c.args.stage layer.input c.shape-got.result c.shape-got.ensures.none.0 c.shape-got.ensures.some in
     let told = over.some layer.shape got in
