@@ -102,7 +102,7 @@ among_passed p (x ∷ numbers) (suc i) below passes =
     let rest = among_passed p numbers i (omega arith) passes in
     elim (p x) as (λ b. Contains (cond b (x ∷ filter p numbers) (filter p numbers)) (get_or numbers i 0)) [ true ↦ (suc rest.0, omega (arith, rest.1), rest.2) | false ↦ rest ]
 
-among_both : (p : ℕ → Bool) (numbers : List ℕ) (i : ℕ) (b : Bool) → i < length numbers → p (get_or numbers i 0) ≡ b → Contains (filter p numbers ++ filter (λ k. not (p k)) numbers) (get_or numbers i 0)
+pub among_both : (p : ℕ → Bool) (numbers : List ℕ) (i : ℕ) (b : Bool) → i < length numbers → p (get_or numbers i 0) ≡ b → Contains (filter p numbers ++ filter (λ k. not (p k)) numbers) (get_or numbers i 0)
 among_both p numbers i true below is = Contains-append_left (filter p numbers) (filter (λ k. not (p k)) numbers) (get_or numbers i 0) (among_passed p numbers i below is)
 among_both p numbers i false below is = Contains-append_right (filter p numbers) (filter (λ k. not (p k)) numbers) (get_or numbers i 0) (among_passed (λ k. not (p k)) numbers i below (ap not is))
 

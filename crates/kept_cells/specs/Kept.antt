@@ -20,6 +20,13 @@ pub record Kept : Type 0 where
   pub slots : ℕ
   pub budget : ℕ
 
+-- what looking up and putting change in no case: the present stamps with the number of changes, and the limits
+pub record Marks : Type 0 where
+  pub stamps : List ℕ
+  pub changes : ℕ
+  pub slots : ℕ
+  pub budget : ℕ
+
 -- the key of a cell of a plane at the present stamp
 abbrev pub key_at : Kept → ℕ → ℕ → Key
 key_at c plane k = record { stage = plane; cell = k; stamp = c.stamps plane }

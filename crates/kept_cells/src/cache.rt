@@ -4,9 +4,8 @@ ghost use Rattle.std.specs.Prelude.{◌≡◌, ℕ, ◌*◌, ◌<◌, ◌^◌, l
 ghost use Rattle.plane_view.specs.Rectangles.{LiesIn, area_of};
 ghost use Rattle.plane_view.specs.Lent.{part_of};
 ghost use Rattle.plane_view.specs.Tiles.{CopiesFrom, SameLoan, loan, tile_rect};
-ghost use Rattle.stage_deps.specs.Stamping.{Stamped};
 ghost use Rattle.kept_cells.specs.Held.{Held, SameHeld, Takes};
-ghost use Rattle.kept_cells.specs.Kept.{Kept, brought, is_kept, put_key};
+ghost use Rattle.kept_cells.specs.Kept.{Kept, Marks, brought, is_kept, put_key};
 
 use plane_view::{Rect, TileMut, View};
 use std::alloc::{AllocError, Global};
@@ -19,8 +18,8 @@ pub trait Cache: Drop {
     /// The keys of all cells in order.
     ghost kept: { Self → Kept };
 
-    /// The present stamps, which neither call changes, even where memory is short.
-    ghost marks: { Self → Stamped };
+    /// The present stamps and the limits, which neither call changes, even where memory is short.
+    ghost marks: { Self → Marks };
 
     /// Writes the samples of a cell that are in a tile, if the cell is held.
     fn find(&mut self, plane: u32, cell: u32, rect: Rect, out: &mut TileMut<'_>) -> bool

@@ -17,6 +17,7 @@ mod tiles;
 
 use crate::parts::samples_of;
 pub use cache::Cache;
+pub use parts::copy_into;
 use plane_view::{Rect, TileMut, View};
 use std::alloc::{AllocError, Global};
 use tile_cache::Key;
@@ -71,7 +72,7 @@ impl Cache for Tiles {
 
     ghost kept = { λ t. kept_in t.cells t.stamps.stamps };
 
-    ghost marks = { λ t. t.stamps };
+    ghost marks = { λ t. record { stamps = t.stamps.stamps; changes = t.stamps.changes; slots = t.cells.slots; budget = t.cells.budget } };
 
     ghost holds = { λ t. holds_kept t.cells t.stamps.stamps };
 

@@ -21,8 +21,9 @@ pub(crate) fn samples_of(alloc: Global, rect: Rect, part: &View<'_>) -> Result<V
     Ok(samples)
 }
 
-/// Writes the samples of a rectangle of a part.
-fn copy_into(rect: Rect, planes: u32, samples: &mut [u16], part: &View<'_>)
+/// Writes the samples of a rectangle of a part, row by row, the planes of a pixel side by side. Those of pixels that the
+/// part doesn't have stay.
+pub fn copy_into(rect: Rect, planes: u32, samples: &mut [u16], part: &View<'_>)
     requires long { length samples.old ≡ area_of rect * planes }
     requires planes { part.now.planes ≡ planes }
     ensures { CopiesFrom (record { rect = rect; planes = planes; samples = samples.old }) (record { rect = rect; planes = planes; samples = samples.new }) part.now rect }

@@ -1,8 +1,11 @@
+pub mod Copying
 pub mod Counting
 pub mod Covering
 pub mod Layering
-pub mod Needs
+pub mod Listing
 pub mod OneCell
+pub mod Replacing
 pub mod Sizes
+pub mod Tiering
 pub mod Top
 pub mod Writing

@@ -1,13 +1,11 @@
 -- Stages with one more on top.
-use Rattle.std.proofs.Common.{◌≡◌, ℕ, ◌+◌, List, [], ◌∷◌, ◌++◌, length, refl, ◌∙◌, ap, subst, arith}
-use Rattle.plane_view.specs.declared.Rect.{Rect}
+use Rattle.std.proofs.Common.{◌≡◌, List, [], ◌∷◌, ◌++◌, length, refl, ◌∙◌, ap, subst, arith}
 use Rattle.plane_view.specs.declared.Shape.{Shape}
 use Rattle.plane_view.specs.Plane.{Plane}
 use Rattle.stage_chain.specs.Chains.{whole_of}
-use Rattle.stage_deps.specs.Cells.{meeting}
 use Rattle.region_session.specs.declared.layers.Layer.{Layer}
 use Rattle.region_session.specs.Layers.{AreLayers, IsLayer}
-use Rattle.region_session.specs.Stacks.{count_of_fetches, count_of_runs, last_shape, needed_cells, needs_of, wanted_below}
+use Rattle.region_session.specs.Stacks.{last_shape}
 
 whole_last : {S : Type 0} (apply : S → Plane → Plane) (stages : List S) (stage : S) (P : Plane) → whole_of apply (stages ++ stage ∷ []) P ≡ apply stage (whole_of apply stages P)
 whole_last apply [] stage P = refl
@@ -16,24 +14,6 @@ whole_last apply (first ∷ stages) stage P = whole_last apply stages stage (app
 pub shape_last : {S : Type 0} (shaped : S → Shape → Shape) (input : Shape) (stages : List S) (stage : S) → last_shape shaped input (stages ++ stage ∷ []) ≡ shaped stage (last_shape shaped input stages)
 shape_last shaped input [] stage = refl
 shape_last shaped input (first ∷ stages) stage = shape_last shaped (shaped first input) stages stage
-
--- what the cells of the stage on top that meet what is wanted rest on
-abbrev pub top_needs : {S : Type 0} → (S → Shape → Shape) → (S → Shape → Rect → Rect) → ℕ → Shape → S → List Rect → List Rect
-top_needs shaped needed side input stage wanted = needs_of shaped needed side input stage (needed_cells side (shaped stage input) wanted)
-
-wanted_last : {S : Type 0} (shaped : S → Shape → Shape) (needed : S → Shape → Rect → Rect) (side : ℕ) (input : Shape) (stages : List S) (stage : S) (wanted : List Rect)
-    → wanted_below shaped needed side input (stages ++ stage ∷ []) wanted ≡ wanted_below shaped needed side input stages (top_needs shaped needed side (last_shape shaped input stages) stage wanted)
-wanted_last shaped needed side input [] stage wanted = refl
-wanted_last shaped needed side input (first ∷ stages) stage wanted =
-    ap (λ (rects : List Rect). top_needs shaped needed side input first rects) (wanted_last shaped needed side (shaped first input) stages stage wanted)
-
-runs_last : {S : Type 0} (shaped : S → Shape → Shape) (needed : S → Shape → Rect → Rect) (side : ℕ) (input : Shape) (stages : List S) (stage : S) (wanted : List Rect)
-    → count_of_runs shaped needed side input (stages ++ stage ∷ []) wanted
-    ≡ count_of_runs shaped needed side input stages (top_needs shaped needed side (last_shape shaped input stages) stage wanted) + length (needed_cells side (shaped stage (last_shape shaped input stages)) wanted)
-runs_last shaped needed side input [] stage wanted = omega arith
-runs_last shaped needed side input (first ∷ stages) stage wanted =
-    let here = ap (λ (rects : List Rect). length (needed_cells side (shaped first input) rects)) (wanted_last shaped needed side (shaped first input) stages stage wanted) in
-    omega (arith, here, runs_last shaped needed side (shaped first input) stages stage wanted)
 
 -- what is known of the stage on top and its layer
 pub record IsTop {S : Type 0} (takes : S → Shape → Type 0) (shaped : S → Shape → Shape) (input : Shape) (stages : List S) (stage : S) (layers : List Layer) (layer : Layer) : Type 0 where
@@ -73,14 +53,3 @@ shape_top shaped input all stages stage split = ap (last_shape shaped input) spl
 
 pub whole_top : {S : Type 0} (apply : S → Plane → Plane) (all stages : List S) (stage : S) (P : Plane) → all ≡ stages ++ stage ∷ [] → whole_of apply all P ≡ apply stage (whole_of apply stages P)
 whole_top apply all stages stage P split = ap (λ (xs : List _). whole_of apply xs P) split ∙ whole_last apply stages stage P
-
-pub fetches_top : {S : Type 0} (shaped : S → Shape → Shape) (needed : S → Shape → Rect → Rect) (side : ℕ) (input : Shape) (cells : List Rect) (all stages : List S) (stage : S) (wanted : List Rect) → all ≡ stages ++ stage ∷ []
-    → count_of_fetches shaped needed side input cells all wanted ≡ count_of_fetches shaped needed side input cells stages (top_needs shaped needed side (last_shape shaped input stages) stage wanted)
-fetches_top shaped needed side input cells all stages stage wanted split =
-    ap (λ (xs : List _). count_of_fetches shaped needed side input cells xs wanted) split ∙ ap (λ (rects : List Rect). length (meeting cells rects)) (wanted_last shaped needed side input stages stage wanted)
-
-pub runs_top : {S : Type 0} (shaped : S → Shape → Shape) (needed : S → Shape → Rect → Rect) (side : ℕ) (input : Shape) (all stages : List S) (stage : S) (wanted : List Rect) → all ≡ stages ++ stage ∷ []
-    → count_of_runs shaped needed side input all wanted
-    ≡ count_of_runs shaped needed side input stages (top_needs shaped needed side (last_shape shaped input stages) stage wanted) + length (needed_cells side (shaped stage (last_shape shaped input stages)) wanted)
-runs_top shaped needed side input all stages stage wanted split =
-    ap (λ (xs : List _). count_of_runs shaped needed side input xs wanted) split ∙ runs_last shaped needed side input stages stage wanted

@@ -1,5 +1,5 @@
 -- Cells that are written into a part, and the crop that is copied from one.
-use Rattle.std.proofs.Common.{◌≡◌, ℕ, ◌+◌, ◌*◌, ◌<◌, ◌≤◌, List, ◌++◌, length, take, drop, sym, ◌∙◌, ap, subst, arith, ⊎_elim, ◌⊎◌, inl, inr}
+use Rattle.std.proofs.Common.{◌≡◌, ℕ, ◌*◌, ◌<◌, ◌≤◌, List, ◌++◌, length, take, drop, sym, ◌∙◌, ap, subst, arith, ⊎_elim, ◌⊎◌, inl, inr}
 use Rattle.std.proofs.lemmas.Bool.{cases_lt}
 use Rattle.plane_view.specs.declared.Rect.{Rect}
 use Rattle.plane_view.specs.declared.tiles.TileMut.{TileMut}
@@ -8,9 +8,8 @@ use Rattle.plane_view.specs.Rectangles.{HasPixel, area_of}
 use Rattle.plane_view.specs.Lent.{AgreesWith, Lent, lent_crop, sample_at}
 use Rattle.plane_view.specs.Tiles.{CopiesFrom, SameLoan, loan, tile_rect}
 use Rattle.plane_view.proofs.Agreement.{crop_at, crop_of_full}
-use Rattle.region_session.specs.Parts.{IsFilled, Shows, part_in}
+use Rattle.region_session.specs.Parts.{Shows, part_in}
 use Rattle.stage_chain.proofs.WholeViews.{written_whole}
-use Rattle.stage_deps.specs.Cells.{cell_at}
 
 -- a tile that agrees with a plane on its rectangle, and is else as it was, has copied the crop
 pub tile_copies : (Q : Plane) (first moved new : TileMut) (L : Lent) (cell : Rect) → loan first ≡ L → loan moved ≡ loan first → tile_rect moved ≡ cell → SameLoan moved new → Q.planes ≡ L.planes
@@ -47,33 +46,6 @@ pixel_cases rect r c =
     (λ (under : rect.bottom ≤ r). inr (λ h. omega arith))
     (cases_lt r rect.bottom))
     (cases_lt r rect.top)
-
--- nothing is written
-pub filled_none : (P : Plane) (L : Lent) (rects : List Rect) → P.planes ≡ L.planes → IsFilled P L rects 0
-filled_none P L rects planes = record { planes = planes; samples = λ i r c p below cell pixel plane. omega arith }
-
--- one more cell is written
-pub filled_more : (P : Plane) (old new : Lent) (rects : List Rect) (n : ℕ) (cell to : Rect)
-    → IsFilled P old rects n → CopiesFrom old new (lent_crop P cell) to → cell ≡ cell_at rects n → to ≡ old.rect → new.rect ≡ old.rect → new.planes ≡ old.planes
-    → IsFilled P new rects (n + 1)
-filled_more P old new rects n cell to filled copies is all rect planes =
-    record {
-      planes = filled.planes ∙ sym planes;
-      samples = λ i r c p below in_cell pixel plane.
-          let was : HasPixel old.rect r c = subst (λ (x : Rect). HasPixel x r c) rect pixel in
-          let inside : HasPixel to r c = subst (λ (x : Rect). HasPixel x r c) (sym all) was in
-          let of_old : p < old.planes = subst (λ (m : ℕ). p < m) filled.planes plane in
-          ⊎_elim
-          (λ (here : HasPixel cell r c). sym (copies.copied r c p inside here of_old ∙ crop_at P cell r c p here plane))
-          (λ (elsewhere : HasPixel cell r c → ⊥).
-          ⊎_elim
-          (λ (earlier : i < n). filled.samples i r c p earlier in_cell was plane ∙ sym (copies.others r c p was (λ _ h. elsewhere h) of_old))
-          (λ (later : n ≤ i).
-          let same : i ≡ n = omega arith in
-          absurd (elsewhere (subst (λ (x : Rect). HasPixel x r c) (ap (λ m. cell_at rects m) same ∙ sym is) in_cell)))
-          (cases_lt i n))
-          (pixel_cases cell r c);
-    }
 
 -- a part whose rectangle was copied from one that shows it is the crop
 pub copied_crop : (P : Plane) (rect : Rect) (planes : ℕ) (old new : List ℕ) (from : Lent)

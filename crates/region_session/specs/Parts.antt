@@ -1,10 +1,11 @@
 -- Parts of planes that are filled cell by cell. This is this project's own.
-use Rattle.std.specs.Prelude.{◌≡◌, ℕ, ◌<◌, ◌*◌, List, take}
+use Rattle.std.specs.Prelude.{◌≡◌, ℕ, ◌<◌, ◌*◌, List, get_or, length, take, true}
 use Rattle.plane_view.specs.declared.Rect.{Rect}
 use Rattle.plane_view.specs.Plane.{Plane, sample}
 use Rattle.plane_view.specs.Rectangles.{HasPixel, LiesIn, area_of}
 use Rattle.plane_view.specs.Lent.{AgreesWith, Lent, sample_at}
 use Rattle.stage_deps.specs.Cells.{cell_at}
+use Rattle.kept_cells.specs.Held.{Held}
 
 -- a rectangle, a number of planes, and as many of the samples as they take
 abbrev pub part_in : Rect → ℕ → List ℕ → Lent
@@ -19,3 +20,8 @@ pub record IsFilled (P : Plane) (L : Lent) (rects : List Rect) (n : ℕ) : Type 
 pub record Shows (P : Plane) (L : Lent) (rect : Rect) : Type 0 where
   pub lies : LiesIn rect L.rect
   pub agrees : AgreesWith P L rect
+
+-- the cells of a plane with these numbers that are held have the sizes of these rectangles
+abbrev pub HaveSizes : Held → (plane planes : ℕ) → List ℕ → List Rect → Type 0
+HaveSizes held plane planes numbers rects =
+    (i : ℕ) → i < length numbers → held.holds plane (get_or numbers i 0) ≡ true → length (held.samples plane (get_or numbers i 0)) ≡ area_of (cell_at rects i) * planes

@@ -6,6 +6,7 @@ ghost use Rattle.region_session.specs.Layers.{AreLayers};
 ghost use Rattle.region_session.specs.Stacks.{IsFirstRefusal};
 
 use crate::OpenFault;
+use crate::patch::Patch;
 use plane_view::{Rect, Shape};
 use stage_core::Stage;
 use std::alloc::Global;
@@ -17,21 +18,25 @@ pub(crate) struct Layer {
     pub shape: Shape,
 }
 
-/// What is needed of a plane, in memory that is used again: the numbers of the cells, their rectangles, and what they
-/// rest on in the plane below.
+/// What is needed of a plane, in memory that is used again: the numbers of the cells, those of the missing ones, the
+/// rectangles of cells, what the missing ones rest on in the plane below, and the part of that plane.
 #[derive(Drop)]
 pub(crate) struct Needed {
     pub numbers: Vec<u32>,
+    pub missing: Vec<u32>,
     pub rects: Vec<Rect>,
     pub needs: Vec<Rect>,
+    pub lower: Patch,
 }
 
 impl Needed {
     pub fn new(alloc: Global) -> Needed {
         Needed {
             numbers: Vec::new(alloc),
+            missing: Vec::new(alloc),
             rects: Vec::new(alloc),
             needs: Vec::new(alloc),
+            lower: Patch::new(alloc),
         }
     }
 }

@@ -1,11 +1,11 @@
 //! Development by cells: any rectangle of the last plane of stages over a base, from the cells that it rests on.
 #![tactic(auto)]
 
+mod bands;
 mod faults;
-mod filling;
 mod layers;
-mod making;
 mod patch;
+mod planes;
 mod session;
 mod tally;
 
@@ -13,5 +13,9 @@ pub use faults::{OpenFault, ShapeChanged};
 pub use session::Session;
 pub use tally::Tally;
 
+#[cfg(test)]
+mod kept_tests;
+#[cfg(test)]
+mod list_tests;
 #[cfg(test)]
 mod tests;

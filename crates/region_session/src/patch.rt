@@ -1,6 +1,6 @@
 //! Parts of planes in memory that is used again.
 
-ghost use Rattle.std.specs.Prelude.{◌≡◌, ℕ, ◌+◌, ◌*◌, ◌<◌, ◌≤◌, ◌^◌, length, slice_get, Some, OnOk};
+ghost use Rattle.std.specs.Prelude.{◌≡◌, ℕ, ◌+◌, ◌*◌, ◌<◌, ◌≤◌, ◌^◌, length, slice_get, Some, true, false, OnOk};
 ghost use Rattle.plane_view.specs.Plane.{Plane};
 ghost use Rattle.plane_view.specs.Lent.{AgreesWith, lent_crop};
 ghost use Rattle.plane_view.specs.Rectangles.{LiesIn, area_of};
@@ -8,8 +8,11 @@ ghost use Rattle.plane_view.specs.Shapes.{IsShape};
 ghost use Rattle.plane_view.specs.Tiles.{CopiesFrom};
 ghost use Rattle.stage_core.specs.Bases.{raised};
 ghost use Rattle.stage_core.specs.Planes.{IsPart, IsPlane};
+ghost use Rattle.kept_cells.specs.Held.{SameHeld};
+ghost use Rattle.kept_cells.specs.Kept.{brought};
 ghost use Rattle.region_session.specs.Parts.{part_in};
 
+use kept_cells::Cache;
 use plane_view::{Rect, Shape, TileMut, View};
 use stage_core::{Base, Stage, Steps};
 use std::alloc::{AllocError, Global};
@@ -137,6 +140,26 @@ impl Patch {
         let memory = &mut self.samples;
         fetch_into(base, k, cell, rect, planes, memory, work);
     }
+
+    /// Copies the cell of a plane from a cache, if it is held.
+    pub fn find<C: Cache>(&mut self, cache: &mut C, plane: u32, k: u32, cell: Rect) -> bool
+        requires plane { plane < length (C.marks cache.old).stamps }
+        requires size { (C.held cache.old).holds plane k ≡ true → length ((C.held cache.old).samples plane k) ≡ area_of cell * self.old.planes }
+        ensures found { result ≡ (C.held cache.old).holds plane k }
+        ensures rect { self.new.rect ≡ self.old.rect }
+        ensures planes { self.new.planes ≡ self.old.planes }
+        ensures copies { result ≡ true → CopiesFrom self.old self.new
+            (record { rect = cell; planes = self.old.planes; samples = (C.held cache.old).samples plane k }) self.old.rect }
+        ensures stays { result ≡ false → self.new ≡ self.old }
+        ensures held { SameHeld (C.held cache.old) (C.held cache.new) }
+        ensures brings { result ≡ true → C.kept cache.new ≡ brought (C.kept cache.old) plane k }
+        ensures leaves { result ≡ false → C.kept cache.new ≡ C.kept cache.old }
+        ensures marks { C.marks cache.new ≡ C.marks cache.old }
+    {
+        let Patch { rect, planes, .. } = *self;
+        let memory = &mut self.samples;
+        find_into(cache, plane, k, cell, rect, planes, memory)
+    }
 }
 
 /// Runs a stage over a cell, into the memory of a part that contains it.
@@ -252,4 +275,56 @@ fn fetch_tile<B: Base, L: Ledger>(
     let mut tile = TileMut::new(rect, planes, samples);
     tile.focus(cell);
     base.fetch(k, &mut tile, work);
+}
+
+/// Copies a cell that is held into the memory of a part.
+fn find_into<C: Cache>(
+    cache: &mut C,
+    plane: u32,
+    k: u32,
+    cell: Rect,
+    rect: Rect,
+    planes: u32,
+    memory: &mut [u16],
+) -> bool
+    requires plane { plane < length (C.marks cache.old).stamps }
+    requires size { (C.held cache.old).holds plane k ≡ true → length ((C.held cache.old).samples plane k) ≡ area_of cell * planes }
+    requires room { area_of rect * planes ≤ length memory.old }
+    ensures found { result ≡ (C.held cache.old).holds plane k }
+    ensures copies { result ≡ true → CopiesFrom (part_in rect planes memory.old) (part_in rect planes memory.new)
+        (record { rect = cell; planes = planes; samples = (C.held cache.old).samples plane k }) rect }
+    ensures stays { result ≡ false → memory.new ≡ memory.old }
+    ensures held { SameHeld (C.held cache.old) (C.held cache.new) }
+    ensures brings { result ≡ true → C.kept cache.new ≡ brought (C.kept cache.old) plane k }
+    ensures leaves { result ≡ false → C.kept cache.new ≡ C.kept cache.old }
+    ensures marks { C.marks cache.new ≡ C.marks cache.old }
+{
+    let count = rect.area() as usize * planes as usize;
+    find_tile(cache, plane, k, cell, rect, planes, &mut memory[..count])
+}
+
+/// The same, into the samples of the part.
+fn find_tile<C: Cache>(
+    cache: &mut C,
+    plane: u32,
+    k: u32,
+    cell: Rect,
+    rect: Rect,
+    planes: u32,
+    samples: &mut [u16],
+) -> bool
+    requires plane { plane < length (C.marks cache.old).stamps }
+    requires size { (C.held cache.old).holds plane k ≡ true → length ((C.held cache.old).samples plane k) ≡ area_of cell * planes }
+    requires long { length samples.old ≡ area_of rect * planes }
+    ensures found { result ≡ (C.held cache.old).holds plane k }
+    ensures copies { result ≡ true → CopiesFrom (record { rect = rect; planes = planes; samples = samples.old }) (record { rect = rect; planes = planes; samples = samples.new })
+        (record { rect = cell; planes = planes; samples = (C.held cache.old).samples plane k }) rect }
+    ensures stays { result ≡ false → samples.new ≡ samples.old }
+    ensures held { SameHeld (C.held cache.old) (C.held cache.new) }
+    ensures brings { result ≡ true → C.kept cache.new ≡ brought (C.kept cache.old) plane k }
+    ensures leaves { result ≡ false → C.kept cache.new ≡ C.kept cache.old }
+    ensures marks { C.marks cache.new ≡ C.marks cache.old }
+{
+    let mut tile = TileMut::new(rect, planes, samples);
+    cache.find(plane, k, cell, &mut tile)
 }

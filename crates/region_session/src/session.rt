@@ -1,33 +1,39 @@
 //! Sessions: stages over a base, of which rectangles are made and single stages replaced.
 
-ghost use Rattle.std.specs.Prelude.{◌≡◌, ℕ, ◌+◌, ◌-◌, ◌*◌, ◌%◌, ◌<◌, ◌≤◌, ◌^◌, [], ◌∷◌, length, slice_get, slice_set, Some, IfOk, IfErr, OnOk, OnErr};
+ghost use Rattle.std.specs.Prelude.{◌≡◌, ℕ, ◌+◌, ◌-◌, ◌*◌, ◌%◌, ◌<◌, ◌≤◌, ◌^◌, [], length, slice_get, slice_set, true, false, Some, IfOk, IfErr, OnOk, OnErr};
 ghost use Rattle.plane_view.specs.Plane.{crop};
 ghost use Rattle.plane_view.specs.Rectangles.{area_of};
-ghost use Rattle.plane_view.specs.Tiles.{CopiesFrom};
 ghost use Rattle.plane_view.specs.Shapes.{IsShape};
 ghost use Rattle.stage_core.specs.Bases.{raised};
 ghost use Rattle.stage_core.specs.Planes.{IsPart, IsPlane};
 ghost use Rattle.stage_core.specs.Stages.{shape_of};
 ghost use Rattle.stage_chain.specs.Chains.{TakeInTurn, whole_of};
-ghost use Rattle.region_session.specs.Sessions.{fetched_of, kept_of, ran_of};
-ghost use Rattle.region_session.specs.Stacks.{IsFirstRefusal, IsShapeOver, count_of_fetches, count_of_runs, last_shape, plane_shape};
+ghost use Rattle.stage_deps.specs.Stamping.{begun, changed};
+ghost use Rattle.kept_cells.specs.Tiling.{held_in};
+ghost use Rattle.region_session.specs.Sessions.{fetched_of, kept_of, keys_after, missing_fetches, missing_runs, ran_of, samples_kept};
+ghost use Rattle.region_session.specs.Stacks.{IsFirstRefusal, IsShapeOver, last_shape, plane_shape};
 
-use crate::filling::Source;
+use crate::bands::make;
 use crate::layers::{Layer, Needed, layers_of};
-use crate::making::make;
 use crate::patch::Patch;
+use crate::planes::Source;
 use crate::{OpenFault, ShapeChanged, Tally};
-use plane_view::{Rect, Shape, TileMut, View};
+use kept_cells::{Tiles, copy_into};
+use plane_view::{Rect, Shape};
 use stage_core::{Base, Stage, Steps};
 use std::alloc::{AllocError, Global};
 use std::marker::Model;
 use std::sync::ledger::Ledger;
+#[cfg(test)]
+use tile_cache::Key;
 
-/// Stages one after the other over a base. Contracts see the base's plane, cells and count of fetches, the stages, and
-/// how many cells were fetched and run.
+/// Stages one after the other over a base, and cells that are kept under a budget. Contracts see the base's plane, cells
+/// and count of fetches, the stages, the stamps and changes, the keys that are held, and how many cells were fetched and
+/// run.
 ///
 /// Plane 0 is the base's, with the base's cells; plane k is what stage k, counted from 1, makes of the plane below, with
-/// the square cells of its grid. Nothing is kept from one band to the next.
+/// the square cells of its grid. A cell is held where its key with the present stamp of its plane is, and is then right:
+/// the crop of its plane under the present stages. There are at most 65,536 keys, and no more samples than the budget.
 #[derive(Drop)]
 pub struct Session<B: Base, S: Stage> {
     source: Source<B>,
@@ -35,15 +41,14 @@ pub struct Session<B: Base, S: Stage> {
     layers: Vec<Layer>,
     needed: Vec<Needed>,
     patch: Patch,
-    spare: Patch,
+    tiles: Tiles,
     side: u32,
-    budget: u64,
     ran: u64,
 }
 
 impl<B: Base, S: Stage> Model for Session<B, S> {
     ghost use Rattle.std.specs.Prelude.{length};
-    ghost use Rattle.stage_core.specs.Stages.{shape_of};
+    ghost use Rattle.tile_cache.specs.Cache.{sizes};
     ghost use Rattle.region_session.specs.Sessions.{AreSound, Opened};
 
     ghost Value = { Opened S };
@@ -54,18 +59,20 @@ impl<B: Base, S: Stage> Model for Session<B, S> {
       fetches = B.fetches s.source.base;
       stages = s.stages.items;
       side = s.side;
-      budget = s.budget;
+      budget = s.tiles.cells.budget;
       fetched = s.source.fetched;
       ran = s.ran;
+      stamps = s.tiles.stamps;
+      keys = sizes s.tiles.cells.pairs;
     } };
 
-    ghost invariant = { λ s. AreSound S.takes S.shaped (shape_of (B.plane s.source.base)) (B.cells_of s.source.base) s.source.cells.items
-        s.stages.items s.layers.items (length s.needed.items) s.side s.budget };
+    ghost invariant = { λ s. AreSound S.takes S.shaped S.apply (B.plane s.source.base) (B.cells_of s.source.base) s.source.cells.items
+        s.stages.items s.layers.items (length s.needed.items) s.side s.tiles };
 }
 
 impl<B: Base, S: Stage> Session<B, S> {
-    /// Opens 1 to 64 stages over a base, with cells of a side of 16 to 512, a multiple of 16. The budget is 0: nothing is
-    /// kept.
+    /// Opens 1 to 64 stages over a base, with cells of a side of 16 to 512, a multiple of 16, and a budget of samples of at
+    /// most 2^30. No cell is held yet, and there was no change.
     ///
     /// # Errors
     ///
@@ -83,7 +90,7 @@ impl<B: Base, S: Stage> Session<B, S> {
         requires least { 16 ≤ cell }
         requires most { cell ≤ 512 }
         requires multiple { cell % 16 ≡ 0 }
-        requires budget { budget ≡ 0 }
+        requires budget { budget ≤ 2 ^ 30 }
         ensures opened { IfOk result (λ session. session ≡ record {
           plane = B.plane base;
           cells = B.cells_of base;
@@ -93,6 +100,8 @@ impl<B: Base, S: Stage> Session<B, S> {
           budget = budget;
           fetched = 0;
           ran = 0;
+          stamps = begun (length stages.items);
+          keys = [];
         }) }
         ensures takes { OnOk result (TakeInTurn S.takes S.shaped stages.items (shape_of (B.plane base))) }
         ensures refused { IfErr result (λ fault. (k : ℕ) → fault ≡ OpenFault.Shape k
@@ -102,6 +111,7 @@ impl<B: Base, S: Stage> Session<B, S> {
         let cells = cells_of(alloc, &base)?;
         let mut needed = Vec::new(alloc);
         needed.resize_with(stages.len() + 1, || Needed::new(alloc))?;
+        let tiles = Tiles::new(alloc, stages.len() as u32, budget)?;
         Ok(Session {
             source: Source {
                 base,
@@ -112,9 +122,8 @@ impl<B: Base, S: Stage> Session<B, S> {
             layers,
             needed,
             patch: Patch::new(alloc),
-            spare: Patch::new(alloc),
+            tiles,
             side: cell,
-            budget,
             ran: 0,
         })
     }
@@ -136,7 +145,8 @@ impl<B: Base, S: Stage> Session<B, S> {
         &self.stages[k as usize - 1]
     }
 
-    /// Puts a stage in the place of stage `k`, counted from 1.
+    /// Puts a stage in the place of stage `k`, counted from 1. One that isn't equal to it is a change of plane `k`: from
+    /// that plane up no cell is held. All keys stay.
     ///
     /// # Errors
     ///
@@ -145,7 +155,12 @@ impl<B: Base, S: Stage> Session<B, S> {
     pub fn replace(&mut self, k: u32, stage: S) -> Result<(), ShapeChanged>
         requires least { 1 ≤ k }
         requires most { k ≤ length self.old.stages }
-        ensures replaced { OnOk result (self.new ≡ record self.old { stages = slice_set self.old.stages (k - 1) stage }) }
+        requires changes { self.old.stamps.changes < 2 ^ 40 }
+        ensures replaced { OnOk result (self.new ≡ record self.old { stages = slice_set self.old.stages (k - 1) stage; stamps = self.new.stamps }) }
+        ensures equal { OnOk result ((former : S) → slice_get self.old.stages (k - 1) ≡ Some former → S.eq former stage ≡ true
+            → self.new.stamps ≡ self.old.stamps) }
+        ensures other { OnOk result ((former : S) → slice_get self.old.stages (k - 1) ≡ Some former → S.eq former stage ≡ false
+            → self.new.stamps ≡ changed k self.old.stamps) }
         ensures same { OnOk result (IsShapeOver S.takes S.shaped stage (plane_shape S.shaped (shape_of self.old.plane) self.old.stages (k - 1))
             (Some (plane_shape S.shaped (shape_of self.old.plane) self.old.stages k))) }
         ensures had { IfErr result (λ fault. fault.had ≡ plane_shape S.shaped (shape_of self.old.plane) self.old.stages k) }
@@ -158,16 +173,22 @@ impl<B: Base, S: Stage> Session<B, S> {
         if got != Some(shape) {
             return Err(ShapeChanged { had: shape, got });
         }
+        let equal = self.stages[k as usize - 1] == stage;
+        change_unless(equal, &mut self.tiles, k);
         self.stages[k as usize - 1] = stage;
         Ok(())
     }
 
     /// Writes a rectangle of the last plane, which has pixels: row by row, the planes of a pixel side by side. Each cell
-    /// that it rests on is fetched or run once, and no other.
+    /// that it needs and that isn't held is fetched or run once, and no other; nothing is done below a plane of which none
+    /// is missing. What is needed of a plane are the cells that meet what the missing ones of the plane above rest on.
+    ///
+    /// Keys of needed cells that were held come to the front, from the last plane down; then those of missing cells are
+    /// put, from plane 0 up, within a plane by rising number.
     ///
     /// # Errors
     ///
-    /// Where there is no memory. Then `out` holds anything.
+    /// Where there is no memory. Then `out` holds anything, and any keys may be held; each cell that is held is right.
     pub fn band<L: Ledger>(
         &mut self,
         rect: Rect,
@@ -177,25 +198,26 @@ impl<B: Base, S: Stage> Session<B, S> {
         requires rect { IsPart rect (last_shape S.shaped (shape_of self.old.plane) self.old.stages) }
         requires long { length out.old ≡ area_of rect * (last_shape S.shaped (shape_of self.old.plane) self.old.stages).planes }
         ensures crop { OnOk result (out.new ≡ (crop (whole_of S.apply self.old.stages self.old.plane) rect).samples) }
-        ensures work { OnOk result (work.new ≡ work.old
-            + (count_of_fetches S.shaped S.needed self.old.side (shape_of self.old.plane) self.old.cells self.old.stages (rect ∷ [])
-            + count_of_runs S.shaped S.needed self.old.side (shape_of self.old.plane) self.old.stages (rect ∷ []))) }
+        ensures work { OnOk result (work.new ≡ work.old + (missing_fetches S.shaped S.needed self.old rect + missing_runs S.shaped S.needed self.old rect)) }
         ensures session { OnOk result (self.new ≡ record self.old {
-          fetches = raised self.old.fetches (count_of_fetches S.shaped S.needed self.old.side (shape_of self.old.plane) self.old.cells self.old.stages (rect ∷ []));
-          fetched = raised self.old.fetched (count_of_fetches S.shaped S.needed self.old.side (shape_of self.old.plane) self.old.cells self.old.stages (rect ∷ []));
-          ran = raised self.old.ran (count_of_runs S.shaped S.needed self.old.side (shape_of self.old.plane) self.old.stages (rect ∷ []));
+          fetches = raised self.old.fetches (missing_fetches S.shaped S.needed self.old rect);
+          fetched = raised self.old.fetched (missing_fetches S.shaped S.needed self.old rect);
+          ran = raised self.old.ran (missing_runs S.shaped S.needed self.old rect);
+          keys = keys_after S.shaped S.needed self.old rect;
         }) }
-        ensures kept_as_was { self.new ≡ record self.old { fetches = self.new.fetches; fetched = self.new.fetched; ran = self.new.ran } }
+        ensures kept_as_was { self.new ≡ record self.old { fetches = self.new.fetches; fetched = self.new.fetched; ran = self.new.ran; keys = self.new.keys } }
     {
+        let alloc = *self.source.cells.allocator();
         make(
+            alloc,
             &mut self.source,
             self.side,
             &self.stages,
             &self.layers,
             &mut self.needed,
             &[rect],
+            &mut self.tiles,
             &mut self.patch,
-            &mut self.spare,
             &mut self.ran,
             work,
         )?;
@@ -217,18 +239,26 @@ impl<B: Base, S: Stage> Session<B, S> {
         self.ran
     }
 
+    /// How many changes there were.
+    pub fn changes(&self) -> u64
+        ensures { result ≡ self.now.stamps.changes }
+    {
+        self.tiles.stamps.changes()
+    }
+
     /// How many samples are kept.
     pub fn kept(&self) -> u64
-        ensures { result ≡ 0 }
+        ensures sum { result ≡ samples_kept self.now }
+        ensures within { result ≤ self.now.budget }
     {
-        0
+        self.tiles.total()
     }
 
     /// The budget of samples that it was opened with.
     pub fn budget(&self) -> u64
         ensures { result ≡ self.now.budget }
     {
-        self.budget
+        self.tiles.budget
     }
 
     /// The side of the cells that it was opened with.
@@ -238,11 +268,17 @@ impl<B: Base, S: Stage> Session<B, S> {
         self.side
     }
 
+    /// The keys that are held, the most recent first.
+    #[cfg(test)]
+    pub(crate) fn keys(&self) -> Result<Vec<Key>, AllocError> {
+        self.tiles.cells.keys()
+    }
+
     /// Ends the session: the numbers of the tally rise by its own.
     pub fn close(self, into: &mut Tally)
         ensures fetched { fetched_of into.new ≡ raised (fetched_of into.old) self.fetched }
         ensures ran { ran_of into.new ≡ raised (ran_of into.old) self.ran }
-        ensures kept { kept_of into.new ≡ raised (kept_of into.old) 0 }
+        ensures kept { kept_of into.new ≡ raised (kept_of into.old) (samples_kept self) }
     {
         into.raise(self.fetched(), self.ran(), self.kept());
     }
@@ -259,11 +295,20 @@ fn cells_of<B: Base>(alloc: Global, base: &B) -> Result<Vec<Rect>, AllocError>
     Ok(cells)
 }
 
-/// Writes the samples of the pixels that are in both.
-fn copy_into(rect: Rect, planes: u32, samples: &mut [u16], from: &View<'_>)
-    requires long { length samples.old ≡ area_of rect * planes }
-    requires planes { from.now.planes ≡ planes }
-    ensures { CopiesFrom (record { rect = rect; planes = planes; samples = samples.old }) (record { rect = rect; planes = planes; samples = samples.new }) from.now rect }
+/// One change more, of plane `k`, unless a stage was replaced by an equal one.
+fn change_unless(equal: bool, tiles: &mut Tiles, k: u32)
+    requires some { 1 ≤ k }
+    requires plane { k < length tiles.old.stamps.stamps }
+    requires few { tiles.old.stamps.changes < 2 ^ 40 }
+    ensures equal { equal ≡ true → tiles.new.stamps ≡ tiles.old.stamps }
+    ensures other { equal ≡ false → tiles.new.stamps ≡ changed k tiles.old.stamps }
+    ensures planes { length tiles.new.stamps.stamps ≡ length tiles.old.stamps.stamps }
+    ensures cells { tiles.new.cells ≡ tiles.old.cells }
+    ensures stale { equal ≡ false → (p n : ℕ) → k ≤ p → p < length tiles.old.stamps.stamps → (held_in tiles.new.cells tiles.new.stamps.stamps).holds p n ≡ false }
+    ensures holds { (p n : ℕ) → p < k → (held_in tiles.new.cells tiles.new.stamps.stamps).holds p n ≡ (held_in tiles.old.cells tiles.old.stamps.stamps).holds p n }
+    ensures samples { (p n : ℕ) → p < k → (held_in tiles.new.cells tiles.new.stamps.stamps).samples p n ≡ (held_in tiles.old.cells tiles.old.stamps.stamps).samples p n }
 {
-    TileMut::new(rect, planes, samples).copy_from(from);
+    if !equal {
+        tiles.change(k);
+    }
 }

@@ -15,13 +15,13 @@ use std::test::Fail;
 
 /// What a base or a stage did: its calls, and the samples that it wrote.
 #[derive(Drop)]
-struct Done {
+pub(crate) struct Done {
     calls: Cell<u64>,
     samples: Cell<u64>,
 }
 
 impl Done {
-    fn new() -> Done {
+    pub(crate) fn new() -> Done {
         Done {
             calls: Cell::new(0),
             samples: Cell::new(0),
@@ -39,11 +39,11 @@ impl Done {
 /// rows.
 #[derive(Drop)]
 #[derive_where(PartialEq)]
-struct Near<'a> {
-    by: u32,
-    most: u32,
+pub(crate) struct Near<'a> {
+    pub by: u32,
+    pub most: u32,
     #[derive_where(skip)]
-    done: &'a Done,
+    pub done: &'a Done,
 }
 
 impl<'a> Stage for Near<'a> {
@@ -100,7 +100,7 @@ impl<'a> Stage for Near<'a> {
 
 /// A plane that is one cell.
 #[derive(Drop)]
-struct Whole<'a> {
+pub(crate) struct Whole<'a> {
     shape: Shape,
     samples: Vec<u16>,
     fetched: u64,
@@ -142,26 +142,47 @@ impl<'a> Base for Whole<'a> {
     }
 }
 
+/// Makes a rectangle of the last plane, where it has pixels and the samples have room.
+pub(crate) fn make_rect<B: Base, S: Stage, L: Ledger>(
+    session: &mut Session<B, S>,
+    rect: Rect,
+    out: &mut [u16],
+    work: &mut Steps<L>,
+) -> Result<(), AllocError>
+    ensures stages { session.new.stages ≡ session.old.stages }
+    ensures stamps { session.new.stamps ≡ session.old.stamps }
+{
+    let shape = session.shape();
+    let rows = rect.top < rect.bottom && rect.bottom <= shape.rows;
+    let cols = rect.left < rect.right && rect.right <= shape.cols;
+    if rows && cols {
+        let count = rect.area() as usize * shape.planes as usize;
+        if let Some(samples) = out.get_mut(..count) {
+            session.band(rect, samples, work)?;
+        }
+    }
+    Ok(())
+}
+
 /// Makes some rows of the last plane.
-fn make_rows<B: Base, S: Stage, L: Ledger>(
+pub(crate) fn make_rows<B: Base, S: Stage, L: Ledger>(
     session: &mut Session<B, S>,
     top: u32,
     bottom: u32,
     out: &mut [u16],
     work: &mut Steps<L>,
-) -> Result<(), AllocError> {
-    let shape = session.shape();
+) -> Result<(), AllocError>
+    ensures stages { session.new.stages ≡ session.old.stages }
+    ensures stamps { session.new.stamps ≡ session.old.stamps }
+{
+    let right = session.shape().cols;
     let rect = Rect {
         top,
         left: 0,
         bottom,
-        right: shape.cols,
+        right,
     };
-    let count = rect.area() * u64::from(shape.planes);
-    if top < bottom && bottom <= shape.rows && out.len() as u64 == count {
-        session.band(rect, out, work)?;
-    }
-    Ok(())
+    make_rect(session, rect, out, work)
 }
 
 /// Makes a plane of 40 rows and 48 columns, by bands of 16 rows or at once.
@@ -189,36 +210,46 @@ fn make_all<B: Base, S: Stage, L: Ledger>(
 }
 
 /// The numbers from 0 up.
-fn numbers(alloc: Global) -> Result<Vec<u16>, AllocError>
-    ensures { IfOk result (λ numbers. length numbers.items ≡ 1920) }
+fn numbers(alloc: Global, count: usize) -> Result<Vec<u16>, AllocError>
+    ensures { IfOk result (λ numbers. length numbers.items ≡ count) }
 {
-    let mut numbers = vec![in alloc; 0u16; 1920]?;
-    for i in 0..1920 {
-        numbers[i] = i as u16;
+    let mut numbers = vec![in alloc; 0u16; count]?;
+    for i in 0..count {
+        numbers[i] = (i % 65536) as u16;
     }
     Ok(numbers)
 }
 
-/// A session of seven stages over a plane of 40 rows and 48 columns. The third stage looks two pixels round itself.
-fn open<'a>(
+/// A session of seven stages over a plane, of which the fifth takes so many rows. The third stage looks two pixels round
+/// itself.
+pub(crate) fn open<'a>(
     alloc: Global,
+    rows: u32,
+    cols: u32,
     cell: u32,
+    budget: u64,
     most: u32,
     done: &'a [Done; 3],
 ) -> Result<Session<Whole<'a>, Near<'a>>, OpenFault>
+    requires some_rows { 1 ≤ rows }
+    requires rows { rows ≤ 40 }
+    requires some_cols { 1 ≤ cols }
+    requires cols { cols ≤ 48 }
     requires least { 16 ≤ cell }
     requires most { cell ≤ 512 }
     requires multiple { cell % 16 ≡ 0 }
+    requires budget { budget ≤ 2 ^ 30 }
     ensures stages { IfOk result (λ session. length session.stages ≡ 7) }
+    ensures changes { IfOk result (λ session. session.stamps.changes ≡ 0) }
 {
     let [source, lower, upper] = done;
     let base = Whole {
         shape: Shape {
-            rows: 40,
-            cols: 48,
+            rows,
+            cols,
             planes: 1,
         },
-        samples: numbers(alloc)?,
+        samples: numbers(alloc, rows as usize * cols as usize)?,
         fetched: 0,
         done: source,
     };
@@ -233,7 +264,7 @@ fn open<'a>(
             return Err(OpenFault::Memory);
         };
     }
-    Session::open(alloc, base, stages, cell, 0)
+    Session::open(alloc, base, stages, cell, budget)
 }
 
 /// Whether the session's plane is the base's, and what the session, the base and the stages up to the second and from
@@ -244,10 +275,10 @@ fn develops(alloc: Global, cell: u32, banded: bool) -> Option<(bool, [u64; 8])>
     requires multiple { cell % 16 ≡ 0 }
 {
     let done = [Done::new(), Done::new(), Done::new()];
-    let mut session = open(alloc, cell, 40, &done).ok()?;
+    let mut session = open(alloc, 40, 48, cell, 0, 40, &done).ok()?;
     let mut out = vec![in alloc; 0u16; 1920].ok()?;
     make_all::<Whole<'_>, Near<'_>, Brand>(&mut session, banded, &mut out, Blank::new(1)).ok()?;
-    let numbers = numbers(alloc).ok()?;
+    let numbers = numbers(alloc, 1920).ok()?;
     let mut tally = Tally::new();
     session.close(&mut tally);
     let [source, lower, upper] = &done;
@@ -277,13 +308,31 @@ fn each_run_writes_one_cell(rt: HostRuntime) {
 /// The fault of a session of which the fifth stage takes so many rows.
 fn fault(alloc: Global, most: u32) -> Option<OpenFault> {
     let done = [Done::new(), Done::new(), Done::new()];
-    open(alloc, 16, most, &done).err()
+    open(alloc, 40, 48, 16, 0, most, &done).err()
 }
 
 #[test]
 fn refuses_shapes(rt: HostRuntime) {
     assert!(rt; fault(rt.alloc(), 39) == Some(OpenFault::Shape { stage: 5 }));
     assert!(rt; fault(rt.alloc(), 40).is_none());
+}
+
+/// Puts a stage in the place of stage `k` of seven.
+pub(crate) fn put<'a>(
+    session: &mut Session<Whole<'a>, Near<'a>>,
+    k: u32,
+    stage: Near<'a>,
+) -> Option<Result<(), ShapeChanged>>
+    requires least { 1 ≤ k }
+    requires last { k ≤ 7 }
+    requires stages { length session.old.stages ≡ 7 }
+    ensures stages { length session.new.stages ≡ 7 }
+{
+    if session.changes() < 1 << 40 {
+        Some(session.replace(k, stage))
+    } else {
+        None
+    }
 }
 
 /// The answer to a new stage in the place of stage `k`, which looks one pixel round itself and takes so many rows, and how
@@ -293,14 +342,16 @@ fn replaced(alloc: Global, k: u32, most: u32) -> Option<(Result<(), ShapeChanged
     requires last { k ≤ 7 }
 {
     let done = [Done::new(), Done::new(), Done::new()];
-    let mut session = open(alloc, 16, 40, &done).ok()?;
+    let Ok(mut session) = open(alloc, 40, 48, 16, 0, 40, &done) else {
+        return None;
+    };
     let [_, _, upper] = &done;
     let stage = Near {
         by: 1,
         most,
         done: upper,
     };
-    let answer = session.replace(k, stage);
+    let answer = put(&mut session, k, stage)?;
     Some((answer, session.stage(k).by))
 }
 
