@@ -13,7 +13,7 @@ use Rattle.tag_rules.specs.declared.faults.FrameFault.{FrameFault}
 use Rattle.tag_rules.specs.declared.faults.FrameFault.TheVariants.{TooLong}
 use Rattle.tag_rules.specs.declared.faults.FrameFault.TheVariants as frames
 use Rattle.dev_settings.specs.declared.settings.Settings.{Settings}
-use Rattle.developer.specs.Opening.{FrameFile, Opened, Opening, Transcript, file_frame, frame_as, if_decoded, opened_by, opened_for, opened_named, opened_next, opened_under, refused_frame, refused_settings, told_frame}
+use Rattle.developer.specs.Opening.{FrameFile, InForce, Opening, Transcript, file_frame, frame_as, if_decoded, opened_by, opened_for, opened_named, opened_next, opened_under, refused_frame, refused_settings, told_frame}
 use Rattle.developer.specs.Opens.{Opens, OpensFiles, open_fault, refused_or_memory, stopped}
 use Rattle.developer.specs.Planning.{PlansUnder, seen}
 use Rattle.developer.specs.SettingsFile.{Refused, file_settings}
@@ -110,8 +110,8 @@ module _ (told : List ℕ → Option (List ℕ)) (before after : List ℕ → �
       accepted decoded = file_read (Ok frame) (file_decoded bytes frame None short is-frame decoded)
 
       -- and is opened
-      pub opens_ok : (opened : Opened) → Opens told mid after (record { bytes = bytes; frame = frame }) chosen.settings (Ok opened) → IfSome (opened_for (Some chosen) told) (λ o. o ≡ Ok opened)
-      opens_ok opened h = next_accepted (told_frame (told chosen.frame)) (record { bytes = bytes; frame = frame }) chosen.settings told (λ o. o ≡ Ok opened) (accepted h.0) h.1
+      pub opens_ok : (now : InForce) → Opens told mid after (record { bytes = bytes; frame = frame }) chosen.settings (Ok now) → IfSome (opened_for (Some chosen) told) (λ o. o ≡ Ok now.opened)
+      opens_ok now h = next_accepted (told_frame (told chosen.frame)) (record { bytes = bytes; frame = frame }) chosen.settings told (λ o. o ≡ Ok now.opened) (accepted h.0) h.1
 
       -- or isn't
       pub opens_err : (fault : OpenFault) → Opens told mid after (record { bytes = bytes; frame = frame }) chosen.settings (Err fault) → OpensFiles told before after chosen (Err fault)
@@ -128,6 +128,6 @@ module _ (told : List ℕ → Option (List ℕ)) (before after : List ℕ → �
       opens_err openings.Memory h = tt
 
       -- it is or it isn't
-      pub opens_either : (result : Result Opened OpenFault) → Opens told mid after (record { bytes = bytes; frame = frame }) chosen.settings result → OpensFiles told before after chosen result
-      opens_either (Ok opened) h = opens_ok opened h
+      pub opens_either : (result : Result InForce OpenFault) → Opens told mid after (record { bytes = bytes; frame = frame }) chosen.settings result → OpensFiles told before after chosen result
+      opens_either (Ok now) h = opens_ok now h
       opens_either (Err fault) h = opens_err fault h

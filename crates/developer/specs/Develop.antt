@@ -45,11 +45,12 @@ pub record Develops (P : Plane) (stages : List DevStage) : Type 0 where
   pub shape : shape_of (whole_of apply_of stages P) ≡ last_shape shaped_of (shape_of P) stages
   pub developed : IsDeveloped (whole_of apply_of stages P)
 
--- a session has its base's plane, its stages and its side as before
+-- a session has its base's plane, its stages, its side and its stamps as before
 pub record StagesStay (old new : Session DevStage) : Type 0 where
   pub plane : new.plane ≡ old.plane
   pub stages : new.stages ≡ old.stages
   pub side : new.side ≡ old.side
+  pub stamps : new.stamps ≡ old.stamps
 
 -- what holds of an opened frame: it was read from these bytes, and the session has its raw plane, and the stages that the
 -- settings give it

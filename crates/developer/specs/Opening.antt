@@ -31,6 +31,11 @@ pub record Opened : Type 0 where
   pub frame : Frame
   pub settings : Settings
 
+-- an opened frame as it is between two lines, with how often a stage was changed
+pub record InForce : Type 0 where
+  pub opened : Opened
+  pub changes : ℕ
+
 -- an opened frame, or what is written of a refusal and its status
 abbrev pub Opening : Type 0
 Opening = Result Opened Transcript

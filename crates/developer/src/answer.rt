@@ -1,6 +1,6 @@
 //! The answer to a line of the script.
 
-ghost use Rattle.std.specs.Prelude.{◌≡◌, ◌≢◌, ◌≤◌, length, IfErr, IfOk, OnErr, OnOk};
+ghost use Rattle.std.specs.Prelude.{◌≡◌, ◌≢◌, ◌+◌, ◌^◌, ◌<◌, ◌≤◌, length, IfErr, IfOk, OnErr, OnOk};
 ghost use Rattle.dev_settings.specs.Commands.{command_of};
 ghost use Rattle.dev_settings.specs.Ranges.{ChangeInRange, CommandInRange};
 ghost use Rattle.developer.specs.Replies.{answer_of, command_answer, max_answer, no_command, no_stages, set_answer};
@@ -27,9 +27,11 @@ pub(crate) fn answer_line<O: Sink, L: Ledger>(
     out: &mut O,
     work: &mut Steps<L>,
 ) -> Result<u64, Stop>
-    ensures writes { Writes O.stands_for O.faults out.old out.new (answer_of frame.old line.now).bytes (λ n. n) result }
-    ensures state { OnOk result (frame.new ≡ (answer_of frame.old line.now).state) }
-    ensures short { length (answer_of frame.old line.now).bytes ≤ max_answer }
+    requires few { frame.old.changes < 2 ^ 40 }
+    ensures writes { Writes O.stands_for O.faults out.old out.new (answer_of frame.old.opened line.now).bytes (λ n. n) result }
+    ensures state { OnOk result (frame.new.opened ≡ (answer_of frame.old.opened line.now).state) }
+    ensures short { length (answer_of frame.old.opened line.now).bytes ≤ max_answer }
+    ensures changes { frame.new.changes ≤ frame.old.changes + 1 }
 {
     match line_text(line) {
         Some(text) => answer_command(alloc, frame, Command::read(text), piece, out, work),
@@ -48,9 +50,11 @@ fn answer_command<O: Sink, L: Ledger>(
     work: &mut Steps<L>,
 ) -> Result<u64, Stop>
     requires in_range { IfOk command CommandInRange }
-    ensures writes { Writes O.stands_for O.faults out.old out.new (command_answer frame.old command).bytes (λ n. n) result }
-    ensures state { OnOk result (frame.new ≡ (command_answer frame.old command).state) }
-    ensures short { length (command_answer frame.old command).bytes ≤ max_answer }
+    requires few { frame.old.changes < 2 ^ 40 }
+    ensures writes { Writes O.stands_for O.faults out.old out.new (command_answer frame.old.opened command).bytes (λ n. n) result }
+    ensures state { OnOk result (frame.new.opened ≡ (command_answer frame.old.opened command).state) }
+    ensures short { length (command_answer frame.old.opened command).bytes ≤ max_answer }
+    ensures changes { frame.new.changes ≤ frame.old.changes + 1 }
 {
     match command {
         Ok(Command::Region { x, y, w, h, format }) => {
@@ -70,9 +74,11 @@ fn answer_set<O: Sink>(
     out: &mut O,
 ) -> Result<u64, Stop>
     requires in_range { ChangeInRange change.now }
-    ensures writes { Writes O.stands_for O.faults out.old out.new (set_answer frame.old change.now).bytes (λ n. n) result }
-    ensures state { OnOk result (frame.new ≡ (set_answer frame.old change.now).state) }
-    ensures short { length (set_answer frame.old change.now).bytes ≤ max_answer }
+    requires few { frame.old.changes < 2 ^ 40 }
+    ensures writes { Writes O.stands_for O.faults out.old out.new (set_answer frame.old.opened change.now).bytes (λ n. n) result }
+    ensures state { OnOk result (frame.new.opened ≡ (set_answer frame.old.opened change.now).state) }
+    ensures short { length (set_answer frame.old.opened change.now).bytes ≤ max_answer }
+    ensures changes { frame.new.changes ≤ frame.old.changes + 1 }
 {
     match frame.set(alloc, change) {
         Ok(()) => write_reply(b"ok\n", out),

@@ -1,6 +1,6 @@
 //! An opened frame: what answers draw on, and what changes of settings change.
 
-ghost use Rattle.std.specs.Prelude.{◌≡◌, ◌≢◌, ◌≤◌, ◌%◌, length, Ok, Err, IfErr, IfOk, OnErr, OnOk};
+ghost use Rattle.std.specs.Prelude.{◌≡◌, ◌≢◌, ◌+◌, ◌^◌, ◌<◌, ◌≤◌, ◌%◌, length, Ok, Err, IfErr, IfOk, OnErr, OnOk};
 ghost use Rattle.dng_tags.specs.Facts.{IsFrame};
 ghost use Rattle.dng_tags.specs.Raw.{raw};
 ghost use Rattle.dev_settings.specs.Ranges.{ChangeInRange};
@@ -37,11 +37,14 @@ pub(crate) struct OpenedFrame<'a> {
 
 impl<'a> Model for OpenedFrame<'a> {
     ghost use Rattle.developer.specs.Develop.{IsUnder};
-    ghost use Rattle.developer.specs.Opening.{Opened};
+    ghost use Rattle.developer.specs.Opening.{InForce};
 
-    ghost Value = { Opened };
+    ghost Value = { InForce };
 
-    ghost view = { λ o. record { bytes = o.bytes.now; frame = o.frame; settings = o.settings } };
+    ghost view = { λ o. record {
+      opened = record { bytes = o.bytes.now; frame = o.frame; settings = o.settings };
+      changes = o.session.stamps.changes;
+    } };
 
     ghost invariant = { λ o. IsUnder o.bytes.now o.frame o.settings o.session };
 }
@@ -63,7 +66,8 @@ impl<'a> OpenedFrame<'a> {
         requires least { 16 ≤ cell }
         requires most { cell ≤ 512 }
         requires multiple { cell % 16 ≡ 0 }
-        ensures { IfOk result (λ opened. opened ≡ record { bytes = bytes.entry.now; frame = frame; settings = planned.settings }) }
+        ensures opened { IfOk result (λ frame_now. frame_now.opened ≡ record { bytes = bytes.entry.now; frame = frame; settings = planned.settings }) }
+        ensures changes { IfOk result (λ frame_now. frame_now.changes ≡ 0) }
     {
         match Session::open(alloc, segments, planned.stages, cell, 0) {
             Ok(session) => Ok(OpenedFrame {
@@ -85,10 +89,12 @@ impl<'a> OpenedFrame<'a> {
     /// Where the frame has no stages under the changed settings; `Memory` where there was none. Then nothing changes.
     pub(crate) fn set(&mut self, alloc: Global, change: &Change) -> Result<(), PlanFault>
         requires in_range { ChangeInRange change.now }
-        ensures settings { OnOk result (self.new ≡ record self.old { settings = changed change.now self.old.settings }) }
-        ensures planned { OnOk result ((stages : _) × (planned self.old.frame (changed change.now self.old.settings) ≡ Ok stages)) }
+        requires few { self.old.changes < 2 ^ 40 }
+        ensures settings { OnOk result (self.new.opened ≡ record self.old.opened { settings = changed change.now self.old.opened.settings }) }
+        ensures planned { OnOk result ((stages : _) × (planned self.old.opened.frame (changed change.now self.old.opened.settings) ≡ Ok stages)) }
         ensures fault { IfErr result (λ fault. fault ≢ PlanFault.Memory
-            → planned self.old.frame (changed change.now self.old.settings) ≡ Err fault) }
+            → planned self.old.opened.frame (changed change.now self.old.opened.settings) ≡ Err fault) }
+        ensures changes { self.new.changes ≤ self.old.changes + 1 }
         ensures unchanged { OnErr result (self.new ≡ self.old) }
     {
         let mut settings = self.settings;
@@ -113,9 +119,9 @@ impl<'a> OpenedFrame<'a> {
         work: &mut Steps<L>,
     ) -> Result<u64, Stop>
         ensures writes { Writes O.stands_for O.faults out.old out.new
-            (region_reply (developed self.old) format (part_of (developed self.old) x y w h)) (λ n. n) result }
+            (region_reply (developed self.old.opened) format (part_of (developed self.old.opened) x y w h)) (λ n. n) result }
         ensures same { self.new ≡ self.old }
-        ensures short { length (region_reply (developed self.old) format (part_of (developed self.old) x y w h)) ≤ max_answer }
+        ensures short { length (region_reply (developed self.old.opened) format (part_of (developed self.old.opened) x y w h)) ≤ max_answer }
     {
         match part(&self.session, x, y, w, h) {
             Some(rect) => write_image(alloc, &mut self.session, rect, format, piece, out, work),

@@ -104,6 +104,7 @@ fn open_frame<'a, F: Files>(
     ensures counts { (other : List ℕ) → F.faults files.old other ≤ F.faults files.new other }
     ensures opens { Opens (F.told files.old) (F.faults files.old) (F.faults files.new)
         (record { bytes = bytes.entry.now; frame = frame }) (option_view options.now).settings result }
+    ensures unchanged { IfOk result (λ frame. frame.changes ≡ 0) }
 {
     let segments = Segments::open(alloc, bytes, &frame)?;
     let planned = plan_under(alloc, files, options.settings, &frame)?;
@@ -121,6 +122,7 @@ fn read_frame_file<'a, F: Files>(
     ensures told { (other : List ℕ) → F.told files.new other ≡ F.told files.old other }
     ensures counts { (other : List ℕ) → F.faults files.old other ≤ F.faults files.new other }
     ensures opens { OpensFiles (F.told files.old) (F.faults files.old) (F.faults files.new) (option_view options.now) result }
+    ensures unchanged { IfOk result (λ frame. frame.changes ≡ 0) }
 {
     *memory = read_all(alloc, files, options.frame, MAX_BYTES)?;
     let bytes: &'a [u8] = memory;
@@ -151,7 +153,8 @@ pub(crate) fn open<'a, F: Files, O: Sink>(
     ensures files { (name : List ℕ) → F.faults files.old name ≤ F.faults files.new name }
     ensures sink { O.faults out.old ≤ O.faults out.new }
     ensures words { OnOk result ((chosen : Chosen) × (options (map string_bytes words.now) ≡ Some chosen)) }
-    ensures opened { IfOk result (λ frame. IfSome (opened (map string_bytes words.now) (F.told files.old)) (λ o. o ≡ Ok frame)) }
+    ensures opened { IfOk result (λ frame. IfSome (opened (map string_bytes words.now) (F.told files.old)) (λ o. o ≡ Ok frame.opened)) }
+    ensures unchanged { IfOk result (λ frame. frame.changes ≡ 0) }
     ensures untouched { OnOk result (out.new ≡ out.old) }
     ensures ended { IfErr result (λ ending. (left : Option (List ℕ)) (script_faults : ℕ) → (written : List ℕ)
         × Appends O.stands_for out.old out.new written

@@ -57,10 +57,12 @@ pub(crate) fn replace<B: Base>(session: &mut Session<B, DevStage>, k: u32, stage
     requires least { 1 ≤ k }
     requires most { k ≤ length session.old.stages }
     requires takes { TakeInTurn takes_of shaped_of session.old.stages (shape_of session.old.plane) }
+    requires changes { session.old.stamps.changes < 2 ^ 40 }
     requires like { (old : DevStage) → slice_get session.old.stages (k - 1) ≡ Some old → AreLike old stage }
     ensures stages { session.new.stages ≡ replaced k stage session.old.stages }
     ensures plane { session.new.plane ≡ session.old.plane }
     ensures side { session.new.side ≡ session.old.side }
+    ensures changes { session.new.stamps.changes ≤ session.old.stamps.changes + 1 }
 {
     match session.replace(k, stage) {
         Ok(()) => {}

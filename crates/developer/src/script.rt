@@ -1,6 +1,6 @@
 //! The script: reading it, and answering its lines.
 
-ghost use Rattle.std.specs.Prelude.{◌≡◌, ℕ, ◌^◌, ◌++◌, ◌<◌, ◌≤◌, List, Option, Some, IfOk, IfSome, OnOk, Ok, length};
+ghost use Rattle.std.specs.Prelude.{◌≡◌, ℕ, ◌+◌, ◌^◌, ◌++◌, ◌<◌, ◌≤◌, List, Option, Some, IfOk, IfSome, OnOk, Ok, length};
 ghost use Rattle.raw_io.specs.Outside.{Appends, Takes};
 ghost use Rattle.dev_settings.specs.Lines.{all_lines, lines_of};
 ghost use Rattle.developer.specs.Answers.{answers};
@@ -43,11 +43,13 @@ fn answer_next<O: Sink, L: Ledger>(
     out: &mut O,
     work: &mut Steps<L>,
 ) -> Result<u64, Stop>
-    requires { written < 2 ^ 60 }
+    requires written { written < 2 ^ 60 }
+    requires few { frame.old.changes < 2 ^ 40 }
     ensures writes { (first : _) (before : List ℕ) → Writes O.stands_for O.faults first out.old before (λ n. n) (Ok written)
-        → Writes O.stands_for O.faults first out.new (before ++ (answer_of frame.old line.now).bytes) (λ n. n) result }
-    ensures state { OnOk result (frame.new ≡ (answer_of frame.old line.now).state) }
-    ensures short { length (answer_of frame.old line.now).bytes ≤ max_answer }
+        → Writes O.stands_for O.faults first out.new (before ++ (answer_of frame.old.opened line.now).bytes) (λ n. n) result }
+    ensures state { OnOk result (frame.new.opened ≡ (answer_of frame.old.opened line.now).state) }
+    ensures short { length (answer_of frame.old.opened line.now).bytes ≤ max_answer }
+    ensures changes { frame.new.changes ≤ frame.old.changes + 1 }
 {
     match answer_line(alloc, frame, piece, line, out, work) {
         Ok(more) => Ok(written + more),
@@ -67,11 +69,13 @@ fn answer_complete_lines<'a, O: Sink, L: Ledger>(
     out: &mut O,
     work: &mut Steps<L>,
 ) -> Result<Answered<'a>, Stop>
-    requires { length script.now ≤ max_script }
-    ensures writes { Writes O.stands_for O.faults out.old out.new (answers_of frame.old (lines_of script.now).complete) (λ a. a.written) result }
+    requires short { length script.now ≤ max_script }
+    requires unchanged { frame.old.changes ≡ 0 }
+    ensures writes { Writes O.stands_for O.faults out.old out.new (answers_of frame.old.opened (lines_of script.now).complete) (λ a. a.written) result }
     ensures rest { IfOk result (λ a. a.rest.now ≡ (lines_of script.now).rest) }
-    ensures state { OnOk result (frame.new ≡ (answers answer_of frame.old (lines_of script.now).complete).state) }
+    ensures state { OnOk result (frame.new.opened ≡ (answers answer_of frame.old.opened (lines_of script.now).complete).state) }
     ensures few { IfOk result (λ a. a.written < 2 ^ 60) }
+    ensures changes { OnOk result (frame.new.changes ≤ max_script) }
 {
     let mut rest = script;
     let mut written = 0;
@@ -91,8 +95,9 @@ fn answer_script<O: Sink, L: Ledger>(
     out: &mut O,
     work: &mut Steps<L>,
 ) -> Result<u64, Stop>
-    requires { length script.now ≤ max_script }
-    ensures { Writes O.stands_for O.faults out.old out.new (answers_of frame.old (all_lines (lines_of script.now))) (λ n. n) result }
+    requires short { length script.now ≤ max_script }
+    requires unchanged { frame.old.changes ≡ 0 }
+    ensures { Writes O.stands_for O.faults out.old out.new (answers_of frame.old.opened (all_lines (lines_of script.now))) (λ n. n) result }
 {
     let Answered { rest, written } = answer_complete_lines(alloc, frame, piece, script, out, work)?;
     if rest.is_empty() {
@@ -109,10 +114,11 @@ pub(crate) fn run_script<C: Source, O: Sink>(
     script: &mut C,
     out: &mut O,
 ) -> Result<(), Ending>
+    requires unchanged { frame.old.changes ≡ 0 }
     ensures script { C.faults script.old ≤ C.faults script.new }
     ensures sink { O.faults out.old ≤ O.faults out.new }
     ensures ended { (words : List (List ℕ)) (told told_after : List ℕ → Option (List ℕ)) (files files_after : List ℕ → ℕ) (chosen : Options)
-        → options words ≡ Some chosen → IfSome (opened words told) (λ o. o ≡ Ok frame.old) → (written taken : List ℕ)
+        → options words ≡ Some chosen → IfSome (opened words told) (λ o. o ≡ Ok frame.old.opened) → (written taken : List ℕ)
         × Appends O.stands_for out.old out.new written
         × Takes (C.left script.old) (C.left script.new) taken
         × Ends (record {
@@ -149,10 +155,11 @@ fn run_counted<C: Source, O: Sink, L: Ledger>(
     requires name { blank.name ≡ L.name }
     requires parts { blank.parts ≡ L.parts }
     requires some { 0 < blank.parts }
+    requires unchanged { frame.old.changes ≡ 0 }
     ensures script { C.faults script.old ≤ C.faults script.new }
     ensures sink { O.faults out.old ≤ O.faults out.new }
     ensures ended { (words : List (List ℕ)) (told told_after : List ℕ → Option (List ℕ)) (files files_after : List ℕ → ℕ) (chosen : Options)
-        → options words ≡ Some chosen → IfSome (opened words told) (λ o. o ≡ Ok frame.old) → (written taken : List ℕ)
+        → options words ≡ Some chosen → IfSome (opened words told) (λ o. o ≡ Ok frame.old.opened) → (written taken : List ℕ)
         × Appends O.stands_for out.old out.new written
         × Takes (C.left script.old) (C.left script.new) taken
         × Ends (record {

@@ -18,6 +18,6 @@ pub returns-clause-opens : goal.returns-clause-opens
 returns-clause-opens g c =
     let file : FrameFile = record { bytes = c.args.bytes.now; frame = c.args.frame } in (
       c.in_ok-segments.ensures.decoded,
-      subst (λ (r : Opened). IfSome (opened_named file (option_view c.args.options.now).settings (g.F.Files.told c.args.files.now)) (λ o. o ≡ Ok r)) (sym c.in_ok-new.ensures)
+      subst (λ (r : Opened). IfSome (opened_named file (option_view c.args.options.now).settings (g.F.Files.told c.args.files.now)) (λ o. o ≡ Ok r)) (sym c.in_ok-new.ensures.opened)
           (settings_opened (g.F.Files.told c.args.files.now) _ _ file (option_view c.args.options.now).settings c.in_ok-planned.planned c.in_ok-planned.ensures.plans),
     )

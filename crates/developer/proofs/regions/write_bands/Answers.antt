@@ -14,7 +14,7 @@ pub loop-top-init : goal.loop-top-init
 loop-top-init g c =
     let P : Plane = whole_of apply_of c.args.session.now.stages c.args.session.now.plane in (
       bands_none g.O.Sink.stands_for g.O.Sink.faults c.args.out.now c.args.piece.now c.args.format P c.args.rect c.requires.develops.developed c.requires.within c.requires.heads,
-      record { plane = refl; stages = refl; side = refl },
+      record { plane = refl; stages = refl; side = refl; stamps = refl },
       refl,
     )
 
@@ -55,6 +55,7 @@ loop-top-preserved g c =
         plane = c.write_band.ensures.stays.plane ∙ c.loop-top.invariant.1.plane;
         stages = c.write_band.ensures.stays.stages ∙ c.loop-top.invariant.1.stages;
         side = c.write_band.ensures.stays.side ∙ c.loop-top.invariant.1.side;
+        stamps = c.write_band.ensures.stays.stamps ∙ c.loop-top.invariant.1.stamps;
       },
       c.write_band.ensures.samples ∙ c.loop-top.invariant.2,
     )

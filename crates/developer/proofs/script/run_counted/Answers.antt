@@ -40,16 +40,16 @@ returns-in_err-answer_script-in-Ok-clause-ended g c words told told_after files 
     let bytes : List ℕ = c.read_source.new.into.items in
     let taken : Takes (g.C.Source.left c.args.script.now) (g.C.Source.left c.read_source.new.source) bytes = c.in-Ok.ensures.taken in
     let short : length bytes ≤ max_script = omega (arith, c.in-Ok.ensures.within, c.read_source.new.into.ok) in
-    let calls = calls_done c.args.frame.now (g.C.Source.left c.args.script.now) (g.C.Source.left c.read_source.new.source) bytes taken c.in-Ok.ensures.end short in
-    let all : List ℕ = answers_of c.args.frame.now (all_lines (lines_of bytes)) in
+    let calls = calls_done c.args.frame.now.opened (g.C.Source.left c.args.script.now) (g.C.Source.left c.read_source.new.source) bytes taken c.in-Ok.ensures.end short in
+    let all : List ℕ = answers_of c.args.frame.now.opened (all_lines (lines_of bytes)) in
     let p = err_from_is_err_and c.from_residual-in_err-answer_script-in-Ok.result c.from_residual-in_err-answer_script-in-Ok.ensures.1 in
-    let w = subst (λ (b : List ℕ). Writes {T = ℕ} g.O.Sink.stands_for g.O.Sink.faults c.args.out.now c.answer_script.new.out (answers_of c.args.frame.now (all_lines (lines_of b))) (λ n. n) (Err c.in_err-answer_script-in-Ok.field-0.0)) c.deref.ensures.value c.in_err-answer_script-in-Ok.ensures in
+    let w = subst (λ (b : List ℕ). Writes {T = ℕ} g.O.Sink.stands_for g.O.Sink.faults c.args.out.now c.answer_script.new.out (answers_of c.args.frame.now.opened (all_lines (lines_of b))) (λ n. n) (Err c.in_err-answer_script-in-Ok.field-0.0)) c.deref.ensures.value c.in_err-answer_script-in-Ok.ensures in
     let written : List ℕ = take c.in_err-answer_script-in-Ok.field-0.0.written all in (
       written,
       bytes,
       w.front,
       taken,
-      rw (p.1, p.2) (stopped_ends (called written bytes) c.in_err-answer_script-in-Ok.field-0.0.cause w.cause (frame_prefix (called written bytes) c.args.frame.now opens all Done calls (prefix_taken c.in_err-answer_script-in-Ok.field-0.0.written all))),
+      rw (p.1, p.2) (stopped_ends (called written bytes) c.in_err-answer_script-in-Ok.field-0.0.cause w.cause (frame_prefix (called written bytes) c.args.frame.now.opened opens all Done calls (prefix_taken c.in_err-answer_script-in-Ok.field-0.0.written all))),
     )
 
 pub returns-in-Ok-clause-ended : goal.returns-in-Ok-clause-ended
@@ -64,14 +64,14 @@ returns-in-Ok-clause-ended g c words told told_after files files_after chosen as
     let bytes : List ℕ = c.read_source.new.into.items in
     let taken : Takes (g.C.Source.left c.args.script.now) (g.C.Source.left c.read_source.new.source) bytes = c.in-Ok.ensures.taken in
     let short : length bytes ≤ max_script = omega (arith, c.in-Ok.ensures.within, c.read_source.new.into.ok) in
-    let calls = calls_done c.args.frame.now (g.C.Source.left c.args.script.now) (g.C.Source.left c.read_source.new.source) bytes taken c.in-Ok.ensures.end short in
-    let all : List ℕ = answers_of c.args.frame.now (all_lines (lines_of bytes)) in
-    let w = subst (λ (b : List ℕ). Writes {T = ℕ} g.O.Sink.stands_for g.O.Sink.faults c.args.out.now c.answer_script.new.out (answers_of c.args.frame.now (all_lines (lines_of b))) (λ n. n) (Ok c.in_ok-answer_script-in-Ok.field-0)) c.deref.ensures.value c.in_ok-answer_script-in-Ok.ensures in (
+    let calls = calls_done c.args.frame.now.opened (g.C.Source.left c.args.script.now) (g.C.Source.left c.read_source.new.source) bytes taken c.in-Ok.ensures.end short in
+    let all : List ℕ = answers_of c.args.frame.now.opened (all_lines (lines_of bytes)) in
+    let w = subst (λ (b : List ℕ). Writes {T = ℕ} g.O.Sink.stands_for g.O.Sink.faults c.args.out.now c.answer_script.new.out (answers_of c.args.frame.now.opened (all_lines (lines_of b))) (λ n. n) (Ok c.in_ok-answer_script-in-Ok.field-0)) c.deref.ensures.value c.in_ok-answer_script-in-Ok.ensures in (
       all,
       bytes,
       w.whole,
       taken,
-      (frame_called (called all bytes) c.args.frame.now opens all Done calls refl, c.in-Ok.ensures.end),
+      (frame_called (called all bytes) c.args.frame.now.opened opens all Done calls refl, c.in-Ok.ensures.end),
     )
 
 pub returns-in_err-answer_complete_lines-in-Err-TooLong-clause-ended : goal.returns-in_err-answer_complete_lines-in-Err-TooLong-clause-ended
@@ -86,18 +86,18 @@ returns-in_err-answer_complete_lines-in-Err-TooLong-clause-ended g c words told 
     let bytes : List ℕ = c.read_source.new.into.items in
     let told-long = c.in-Err-TooLong.ensures.too_long (ap Err c.in-Err-TooLong.field-0-is) in
     let long : length bytes ≡ max_script + 1 = omega (arith, told-long.1, c.read_source.new.into.ok) in
-    let calls = calls_long c.args.frame.now (g.C.Source.left c.args.script.now) (g.C.Source.left c.read_source.new.source) bytes told-long.0 long in
-    let all : List ℕ = answers_of c.args.frame.now (lines_of (take max_script bytes)).complete in
+    let calls = calls_long c.args.frame.now.opened (g.C.Source.left c.args.script.now) (g.C.Source.left c.read_source.new.source) bytes told-long.0 long in
+    let all : List ℕ = answers_of c.args.frame.now.opened (lines_of (take max_script bytes)).complete in
     let front : c.deref-in-Err-TooLong.result.now ≡ take max_script bytes = c.deref-in-Err-TooLong.ensures.value ∙ c.truncate.ensures.items in
     let p = err_from_is_err_and c.from_residual-in_err-answer_complete_lines-in-Err-TooLong.result c.from_residual-in_err-answer_complete_lines-in-Err-TooLong.ensures.1 in
     let stop = c.in_err-answer_complete_lines-in-Err-TooLong.field-0.0 in
-    let w = subst (λ (b : List ℕ). Writes {T = Answered} g.O.Sink.stands_for g.O.Sink.faults c.args.out.now c.answer_complete_lines.new.out (answers_of c.args.frame.now (lines_of b).complete) (λ a. a.written) (Err stop)) front c.in_err-answer_complete_lines-in-Err-TooLong.ensures.writes in
+    let w = subst (λ (b : List ℕ). Writes {T = Answered} g.O.Sink.stands_for g.O.Sink.faults c.args.out.now c.answer_complete_lines.new.out (answers_of c.args.frame.now.opened (lines_of b).complete) (λ a. a.written) (Err stop)) front c.in_err-answer_complete_lines-in-Err-TooLong.ensures.writes in
     let written : List ℕ = take stop.written all in (
       written,
       bytes,
       w.front,
       told-long.0,
-      rw (p.1, p.2) (stopped_ends (called written bytes) stop.cause w.cause (frame_prefix (called written bytes) c.args.frame.now opens all ScriptTooLong calls (prefix_taken stop.written all))),
+      rw (p.1, p.2) (stopped_ends (called written bytes) stop.cause w.cause (frame_prefix (called written bytes) c.args.frame.now.opened opens all ScriptTooLong calls (prefix_taken stop.written all))),
     )
 
 pub returns-in-Err-TooLong-clause-ended : goal.returns-in-Err-TooLong-clause-ended
@@ -112,15 +112,15 @@ returns-in-Err-TooLong-clause-ended g c words told told_after files files_after 
     let bytes : List ℕ = c.read_source.new.into.items in
     let told-long = c.in-Err-TooLong.ensures.too_long (ap Err c.in-Err-TooLong.field-0-is) in
     let long : length bytes ≡ max_script + 1 = omega (arith, told-long.1, c.read_source.new.into.ok) in
-    let calls = calls_long c.args.frame.now (g.C.Source.left c.args.script.now) (g.C.Source.left c.read_source.new.source) bytes told-long.0 long in
-    let all : List ℕ = answers_of c.args.frame.now (lines_of (take max_script bytes)).complete in
+    let calls = calls_long c.args.frame.now.opened (g.C.Source.left c.args.script.now) (g.C.Source.left c.read_source.new.source) bytes told-long.0 long in
+    let all : List ℕ = answers_of c.args.frame.now.opened (lines_of (take max_script bytes)).complete in
     let front : c.deref-in-Err-TooLong.result.now ≡ take max_script bytes = c.deref-in-Err-TooLong.ensures.value ∙ c.truncate.ensures.items in
-    let w = subst (λ (b : List ℕ). Writes {T = Answered} g.O.Sink.stands_for g.O.Sink.faults c.args.out.now c.answer_complete_lines.new.out (answers_of c.args.frame.now (lines_of b).complete) (λ a. a.written) (Ok c.in_ok-answer_complete_lines-in-Err-TooLong.field-0)) front c.in_ok-answer_complete_lines-in-Err-TooLong.ensures.writes in (
+    let w = subst (λ (b : List ℕ). Writes {T = Answered} g.O.Sink.stands_for g.O.Sink.faults c.args.out.now c.answer_complete_lines.new.out (answers_of c.args.frame.now.opened (lines_of b).complete) (λ a. a.written) (Ok c.in_ok-answer_complete_lines-in-Err-TooLong.field-0)) front c.in_ok-answer_complete_lines-in-Err-TooLong.ensures.writes in (
       all,
       bytes,
       w.whole,
       told-long.0,
-      (frame_called (called all bytes) c.args.frame.now opens all ScriptTooLong calls refl, let more : max_script < length bytes = omega arith in more),
+      (frame_called (called all bytes) c.args.frame.now.opened opens all ScriptTooLong calls refl, let more : max_script < length bytes = omega arith in more),
     )
 
 pub returns-in-Err-Failed-clause-ended : goal.returns-in-Err-Failed-clause-ended
@@ -141,7 +141,7 @@ returns-in-Err-Failed-clause-ended g c words told told_after files files_after c
       (
         omega (arith, taken.1, c.read_source.new.into.ok),
         nothing_prefix (called [] bytes) refl,
-        (chosen, asks, inr (c.in-Err-Failed.ensures.rises (ap Err c.in-Err-Failed.field-0-is), frame_opened (called [] bytes) c.args.frame.now opens)),
+        (chosen, asks, inr (c.in-Err-Failed.ensures.rises (ap Err c.in-Err-Failed.field-0-is), frame_opened (called [] bytes) c.args.frame.now.opened opens)),
       ),
     )
 

@@ -4,7 +4,7 @@ use Rattle.dev_settings.specs.Settings.{changed}
 use Rattle.dev_settings.specs.declared.settings.Settings.{Settings}
 use Rattle.dev_stages.specs.Changes.{replaced}
 use Rattle.dev_stages.specs.Plans.{planned}
-use Rattle.developer.specs.Opening.{Opened}
+use Rattle.developer.specs.Opening.{InForce}
 use Rattle.developer.proofs.Development.{under_develops}
 use Rattle.developer.proofs.opened.OpenedFrame.set.Goals as goal
 
@@ -14,7 +14,7 @@ returns-in_err-number-clause-fault c =
     let fault = c.in_err-number.field-0.0 in
     rw (p.1, p.2)
     (λ other.
-    subst (λ (o : Opened). planned o.frame (changed c.args.change.now o.settings) ≡ Err fault) c.self.view_is
+    subst (λ (o : InForce). planned o.opened.frame (changed c.args.change.now o.opened.settings) ≡ Err fault) c.self.view_is
     (subst (λ (s : Settings). planned c.self.inside.frame s ≡ Err fault) c.apply.ensures.settings
     (c.in_err-number.ensures.refuses other c.self.inside.settings c.self.inside.session.stages c.apply.ensures.settings c.self.invariant.stages)))
 
@@ -29,7 +29,7 @@ pub returns-clause-planned : goal.returns-clause-planned
 returns-clause-planned c =
     let stages = replaced c.in_ok-number.number c.in_ok-number.stage c.self.inside.session.stages in (
       stages,
-      subst (λ (o : Opened). planned o.frame (changed c.args.change.now o.settings) ≡ Ok stages) c.self.view_is
+      subst (λ (o : InForce). planned o.opened.frame (changed c.args.change.now o.opened.settings) ≡ Ok stages) c.self.view_is
           (subst (λ (s : Settings). planned c.self.inside.frame s ≡ Ok stages) c.apply.ensures.settings
           (c.in_ok-number.ensures.replaces c.self.inside.settings c.self.inside.session.stages c.apply.ensures.settings c.self.invariant.stages).all),
     )
