@@ -11,6 +11,7 @@ use test_frames::{TestFrame, bright_red, flat, patch, plain};
 use tiff_dirs::Order;
 use tiff_write::{Field, Place};
 
+mod cells;
 mod lines;
 mod opcodes;
 mod settings;
