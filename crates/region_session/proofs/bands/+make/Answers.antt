@@ -19,14 +19,14 @@ use Rattle.stage_deps.specs.Cells.{cell_at, cells_at, meeting}
 use Rattle.stage_deps.specs.Grids.{grid_cells}
 use Rattle.stage_deps.proofs.Coverage.{unmapped}
 use Rattle.stage_deps.proofs.GridCells.{grid_makes_up}
-use Rattle.kept_cells.specs.Held.{AreRight, HasCells, Held, IsRight, TakesUpTo, fresh, missing}
+use Rattle.kept_cells.specs.Held.{AreRight, Held, IsRight, TakesUpTo, fresh, missing}
 use Rattle.kept_cells.specs.Kept.{Kept, Marks, brought_each, keep, put_each, size_of}
 use Rattle.kept_cells.specs.Missing.{count_of_fetches, count_of_runs, needs_of}
 use Rattle.kept_cells.specs.Tiers.{Tier, developed, tiers_of}
 use Rattle.kept_cells.proofs.Keeping.{absent_later, keep_same, keep_top, missing_rises}
 use Rattle.kept_cells.proofs.Lower.{fetches_same, fetches_top, missing_bounds, right_same, rights_lower, rights_run, rights_same, runs_same, runs_top, takes_lower, takes_run}
 use Rattle.region_session.specs.declared.layers.Layer.{Layer}
-use Rattle.region_session.specs.Parts.{Shows}
+use Rattle.region_session.specs.Parts.{HasCells, Shows}
 use Rattle.region_session.specs.Stacks.{last_shape}
 use Rattle.region_session.proofs.Copying.{filled_from, missing_told}
 use Rattle.region_session.proofs.Counting.{raised_none}
@@ -132,11 +132,11 @@ returns-then-is_empty-clause-shows g t c =
     let up = grid_makes_up grid.shape grid.side (omega (arith, grid.least)) in
     let R : Plane = apply stage (whole_of apply below P) in
     let patch : Lent = c.open_wanted.new.patch in
-    let had : HasCells R patch cells (fresh held plane numbers) = c.in_ok-open_wanted.ensures.cells R top.own.shape.planes kept.right in
+    let had : HasCells R patch wanted cells (fresh held plane numbers) = c.in_ok-open_wanted.ensures.cells R top.own.shape.planes kept.right in
     let more : fresh held plane numbers ++ gone ≡ fresh held plane numbers = ap (λ (xs : List ℕ). fresh held plane numbers ++ xs) none ∙ append-nil (fresh held plane numbers) in
-    let filled : HasCells R patch cells (fresh held plane numbers ++ gone) = subst (λ (xs : List ℕ). HasCells R patch cells xs) (sym more) had in
+    let filled : HasCells R patch wanted cells (fresh held plane numbers ++ gone) = subst (λ (xs : List ℕ). HasCells R patch wanted cells xs) (sym more) had in
     subst (λ (X : Plane). All (Shows X patch) wanted) (sym top.whole)
-    (shows_wanted R patch grid.shape cells wanted up parts c.in_ok-open_wanted.ensures.lie (filled_from R patch cells held plane numbers filled))
+    (shows_wanted R patch grid.shape cells wanted up parts c.in_ok-open_wanted.ensures.lie (filled_from R patch wanted cells held plane numbers filled))
 
 pub returns-then-is_empty-clause-work : goal.returns-then-is_empty-clause-work
 returns-then-is_empty-clause-work g t c =
@@ -635,13 +635,13 @@ returns-clause-shows g t c =
     let parts : All (λ (rect : Rect). IsPart rect grid.shape) wanted = subst (λ (t : Shape). All (λ (rect : Rect). IsPart rect t) wanted) top.last c.requires.wanted in
     let up = grid_makes_up grid.shape grid.side (omega (arith, grid.least)) in
     let patch : Lent = c.run_missing.new.patch in
-    let had : HasCells R c.open_wanted.new.patch cells (fresh held plane numbers) = c.in_ok-open_wanted.ensures.cells R top.own.shape.planes kept.right in
-    let filled : HasCells R patch cells (fresh held plane numbers ++ gone) =
-    subst (λ (xs : List ℕ). HasCells R patch cells (fresh held plane numbers ++ xs)) rest (c.in_ok-run_missing.ensures.copied Q (fresh held plane numbers) top.lower agrees had) in
+    let had : HasCells R c.open_wanted.new.patch wanted cells (fresh held plane numbers) = c.in_ok-open_wanted.ensures.cells R top.own.shape.planes kept.right in
+    let filled : HasCells R patch wanted cells (fresh held plane numbers ++ gone) =
+    subst (λ (xs : List ℕ). HasCells R patch wanted cells (fresh held plane numbers ++ xs)) rest (c.in_ok-run_missing.ensures.copied Q wanted (fresh held plane numbers) top.lower agrees had) in
     let lie : All (λ (rect : Rect). LiesIn rect patch.rect) (cells_at cells numbers) =
     subst (λ (x : Rect). All (λ (rect : Rect). LiesIn rect x) (cells_at cells numbers)) (sym c.run_missing.ensures.rect) c.in_ok-open_wanted.ensures.lie in
     subst (λ (X : Plane). All (Shows X patch) wanted) (sym top.whole)
-    (shows_wanted R patch grid.shape cells wanted up parts lie (filled_from R patch cells held plane numbers filled))
+    (shows_wanted R patch grid.shape cells wanted up parts lie (filled_from R patch wanted cells held plane numbers filled))
 
 pub returns-clause-work : goal.returns-clause-work
 returns-clause-work g t c =
