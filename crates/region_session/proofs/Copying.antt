@@ -16,9 +16,6 @@ use Rattle.kept_cells.proofs.Lower.{among_both}
 use Rattle.region_session.specs.Parts.{HasCells, HasWanted, HaveSizes, IsFilled}
 use Rattle.region_session.proofs.Writing.{pixel_cases}
 
-pub cells_none : (P : Plane) (L : Lent) (wanted cells : List Rect) → P.planes ≡ L.planes → HasCells P L wanted cells []
-cells_none P L wanted cells planes = record { planes = planes; samples = λ k r c p among in_cell is_wanted pixel plane. absurd (omega (arith, among.1)) }
-
 -- one more cell is put in
 pub cells_more : (P : Plane) (old new : Lent) (wanted cells : List Rect) (done : List ℕ) (n : ℕ) (to : Rect)
     → HasCells P old wanted cells done → CopiesFrom old new (lent_crop P (cell_at cells n)) to → HasWanted to old.rect wanted → new.rect ≡ old.rect → new.planes ≡ old.planes
