@@ -116,9 +116,6 @@ right_same old new plane P cells same right = right_kept old new plane P cells (
 pub rights_same : {S : Type 0} (apply : S → Plane → Plane) (old new : Held) (P : Plane) (tiers : List (Tier S)) → SameHeld old new → AreRight apply old 0 P tiers → AreRight apply new 0 P tiers
 rights_same apply old new P tiers same right = all_right_kept apply old new 0 P tiers (λ p k here now. (sym (same.holds p k) ∙ now, same.samples p k)) right
 
-pub right_taken : (old new : Held) (plane other : ℕ) (P : Plane) (cells : List Rect) → TakesOf old new other → (plane ≡ other → ⊥) → IsRight old plane P cells → IsRight new plane P cells
-right_taken old new plane other P cells takes apart right = right_kept old new plane P cells (λ p k here now. takes.others p k (λ e. apart (sym here ∙ e)) now) right
-
 -- what is held is right once the planes below a tier are made
 pub rights_lower : {S : Type 0} (apply : S → Plane → Plane) (first opened lower : Held) (P : Plane) (all tiers : List (Tier S)) (tier : Tier S) → all ≡ tiers ++ tier ∷ []
     → SameHeld first opened → TakesUpTo opened lower (length tiers) → AreRight apply first 0 P all → AreRight apply lower 0 P tiers → AreRight apply lower 0 P all
@@ -142,9 +139,6 @@ rights_run apply lower new P all tiers tier plane split is takes step rights =
     let top : IsRight new (0 + length tiers + 1) Q cells = subst (λ (n : ℕ). IsRight new n Q cells) (sym same) (step (subst (λ (n : ℕ). IsRight lower n Q cells) same were.1)) in
     let below : AreRight apply new 0 P tiers = all_right_kept apply lower new 0 P tiers (λ p k here now. takes.others p k (λ e. omega (arith, here.1)) now) were.0 in
     subst (λ (xs : List (Tier _)). AreRight apply new 0 P xs) (sym split) (right_push apply new 0 P tiers tier below top)
-
-pub takes_same : (first opened : Held) (plane : ℕ) → SameHeld first opened → TakesUpTo first opened plane
-takes_same first opened plane same = record { above = λ p k high now. (sym (same.holds p k) ∙ now, same.samples p k) }
 
 pub takes_lower : (first opened lower : Held) (low plane : ℕ) → SameHeld first opened → TakesUpTo opened lower low → low ≤ plane → TakesUpTo first lower plane
 takes_lower first opened lower low plane same takes order =

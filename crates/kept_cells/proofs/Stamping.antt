@@ -1,8 +1,5 @@
 -- Stamps after a change.
-use Rattle.std.proofs.Common.{◌≡◌, ℕ, zero, suc, ◌+◌, ◌-◌, ◌<◌, ◌≤◌, List, [], ◌∷◌, ◌++◌, length, get_or, replicate, take, is_some, false, refl, ◌∙◌, ap, arith}
-use Rattle.std.specs.Option.{option_map_or}
-use Rattle.std.specs.Map.{lookup}
-use Rattle.tile_cache.specs.Cache.{same_key}
+use Rattle.std.proofs.Common.{◌≡◌, ℕ, zero, suc, ◌+◌, ◌-◌, ◌<◌, ◌≤◌, List, [], ◌∷◌, ◌++◌, length, get_or, replicate, take, false, refl, ◌∙◌, ap, arith}
 use Rattle.tile_cache.specs.Pairs.{Cache}
 use Rattle.stage_deps.specs.Stamping.{stamped_from}
 use Rattle.kept_cells.specs.Keys.{KeysUpTo}
@@ -38,9 +35,3 @@ pub stale_at : (c : Cache) (stamps : List ℕ) (changes first p k : ℕ) → Key
 stale_at c stamps changes first p k keys high low =
     let stamp : get_or (stamped_from first (changes + 1) stamps) p 0 ≡ changes + 1 = stamped_high first (changes + 1) stamps p high low in
     later_absent changes (key_at (kept_in c (stamped_from first (changes + 1) stamps)) p k) c.pairs keys (omega (arith, stamp))
-
-pub held_low : (c : Cache) (stamps : List ℕ) (stamp first p k : ℕ) → p < first → first ≤ length stamps → (held_in c (stamped_from first stamp stamps)).holds p k ≡ (held_in c stamps).holds p k
-held_low c stamps stamp first p k low within = ap (λ (n : ℕ). is_some (lookup (same_key (record { stage = p; cell = k; stamp = n })) c.pairs)) (stamped_low first stamp stamps p low within)
-
-pub samples_low : (c : Cache) (stamps : List ℕ) (stamp first p k : ℕ) → p < first → first ≤ length stamps → (held_in c (stamped_from first stamp stamps)).samples p k ≡ (held_in c stamps).samples p k
-samples_low c stamps stamp first p k low within = ap (λ (n : ℕ). option_map_or (λ (xs : List ℕ). xs) (lookup (same_key (record { stage = p; cell = k; stamp = n })) c.pairs) []) (stamped_low first stamp stamps p low within)

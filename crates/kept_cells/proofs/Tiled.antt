@@ -10,14 +10,13 @@ use Rattle.tile_cache.specs.Pairs.{Cache, Pair}
 use Rattle.tile_cache.specs.Cache.{same_key, size, after_get, after_put, after_drops}
 use Rattle.tile_cache.specs.Kept.{has_room, kept}
 use Rattle.tile_cache.specs.declared.Key.{Key}
-use Rattle.tile_cache.proofs.Entries.{lookup-promoted, sizes-after_put}
+use Rattle.tile_cache.proofs.Entries.{lookup-promoted}
 use Rattle.tile_cache.proofs.Kept.{dropped_until-take}
 use Rattle.kept_cells.specs.Held.{SameHeld, Takes}
-use Rattle.kept_cells.specs.Kept.{Kept, key_at, brought, put_key}
+use Rattle.kept_cells.specs.Kept.{Kept, key_at, brought}
 use Rattle.kept_cells.specs.Tiling.{kept_in, held_in}
 use Rattle.kept_cells.specs.Keys.{KeysUpTo}
 use Rattle.std.proofs.Common.{◌≤◌, ◌<◌}
-use Rattle.std.specs.List.{All}
 use Rattle.std.proofs.lemmas.List.Elements.{All-cons, All-head, All-tail, All-take}
 
 -- a key with the size of its cell
@@ -144,10 +143,6 @@ unfound_kept a b s plane cell is absent =
 
 -- ---- what a put leaves
 
-pub stored_kept : (a b : Cache) (s : List ℕ) (plane cell : ℕ) (xs : List ℕ) → b ≡ after_put (key_at (kept_in a s) plane cell) xs a → kept_in b s ≡ put_key (kept_in a s) plane cell (length xs)
-stored_kept a b s plane cell xs is =
-    ap (λ (c : Cache). kept_in c s) is ∙ ap (λ items. made items s a.slots a.budget) (sizes-after_put a (key_at (kept_in a s) plane cell) xs)
-
 -- a list in which only one key may be new
 record Fewer (old new : List Pair) (key : Key) (xs : List ℕ) : Type 0 where
   this : is_some (lookup (same_key key) new) ≡ true → lookup (same_key key) new ≡ Some xs
@@ -246,12 +241,6 @@ stored_keys a b n key xs upto present is = subst (λ (ps : List Pair). KeysUpTo 
     go : (t : Bool) → KeysUpTo n (cond t ((key, xs) ∷ kept size a.slots a.budget (length xs) a.pairs) a.pairs)
     go true = All-cons (λ (y : Pair). y.0.stamp ≤ n) (key, xs) (kept size a.slots a.budget (length xs) a.pairs) present (kept_keys a n (length xs) upto)
     go false = upto
-
--- a present stamp
-pub present_at : (n : ℕ) (stamps : List ℕ) (p : ℕ) → All (λ m. m ≤ n) stamps → get_or stamps p 0 ≤ n
-present_at n [] p upto = omega arith
-present_at n (x ∷ xs) zero upto = All-head (λ (m : ℕ). m ≤ n) x xs upto
-present_at n (x ∷ xs) (suc p) upto = present_at n xs p (All-tail (λ (m : ℕ). m ≤ n) x xs upto)
 
 -- no key of a later stamp is there
 pub later_absent : (n : ℕ) (key : Key) (ps : List Pair) → KeysUpTo n ps → n < key.stamp → is_some (lookup (same_key key) ps) ≡ false

@@ -1,10 +1,9 @@
 -- What a cache holds: cells of planes, by their numbers.
 use Rattle.std.specs.Prelude.{◌≡◌, ℕ, ◌*◌, ◌+◌, ◌<◌, List, [], ◌∷◌, length, Bool, true, not}
-use Rattle.std.specs.List.{filter, Contains}
+use Rattle.std.specs.List.{filter}
 use Rattle.plane_view.specs.declared.Rect.{Rect}
-use Rattle.plane_view.specs.Plane.{Plane, sample, crop}
-use Rattle.plane_view.specs.Rectangles.{HasPixel, area_of}
-use Rattle.plane_view.specs.Lent.{Lent, sample_at}
+use Rattle.plane_view.specs.Plane.{Plane, crop}
+use Rattle.plane_view.specs.Rectangles.{area_of}
 use Rattle.kept_cells.specs.Tiers.{Tier}
 use Rattle.stage_deps.specs.Cells.{cell_at}
 
@@ -53,8 +52,3 @@ fresh held plane numbers = filter (held.holds plane) numbers
 
 abbrev pub missing : Held → ℕ → List ℕ → List ℕ
 missing held plane numbers = filter (λ k. not (held.holds plane k)) numbers
-
--- where a part has a pixel of one of these cells, it has the plane's samples
-pub record HasCells (P : Plane) (L : Lent) (cells : List Rect) (numbers : List ℕ) : Type 0 where
-  pub planes : P.planes ≡ L.planes
-  pub samples : (k r c p : ℕ) → Contains numbers k → HasPixel (cell_at cells k) r c → HasPixel L.rect r c → p < P.planes → sample P r c p ≡ sample_at L r c p

@@ -49,7 +49,7 @@ corners rects outer w lie first last =
 
 -- a part that is filled from the cells that meet what is wanted shows it
 pub shows_wanted : (P : Plane) (L : Lent) (shape : Shape) (cells wanted : List Rect) → MakeUp cells shape → All (λ (rect : Rect). IsPart rect shape) wanted
-    → All (λ (rect : Rect). LiesIn rect L.rect) (cells_at cells (meeting cells wanted)) → IsFilled P L (cells_at cells (meeting cells wanted)) (length (cells_at cells (meeting cells wanted))) → All (Shows P L) wanted
+    → All (λ (rect : Rect). LiesIn rect L.rect) (cells_at cells (meeting cells wanted)) → IsFilled P L wanted (cells_at cells (meeting cells wanted)) → All (Shows P L) wanted
 shows_wanted P L shape cells wanted up parts lie filled = λ j d below.
     let w : Rect = get_or wanted j d in
     let at : slice_get wanted j ≡ Some w = slice_get-get_or wanted j d below in
@@ -65,7 +65,7 @@ shows_wanted P L shape cells wanted up parts lie filled = λ j d below.
         planes = filled.planes;
         samples = λ r c p pixel plane.
             let found = cell_of_wanted shape cells wanted j w r c up at part pixel in
-            filled.samples found.0 r c p found.1 found.2
+            filled.samples found.0 r c p found.1 found.2 (j, below, subst (λ (x : Rect). HasPixel x r c) (get_or_default wanted j d no_rect below) pixel)
             (record { top = omega (arith, pixel.top, lies.top); bottom = omega (arith, pixel.bottom, lies.bottom); left = omega (arith, pixel.left, lies.left); right = omega (arith, pixel.right, lies.right) }) plane;
       };
     }

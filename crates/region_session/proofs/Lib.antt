@@ -8,4 +8,5 @@ pub mod Replacing
 pub mod Sizes
 pub mod Tiering
 pub mod Top
+pub mod Unkept
 pub mod Writing

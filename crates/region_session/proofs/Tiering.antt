@@ -5,6 +5,8 @@ use Rattle.plane_view.specs.declared.Shape.{Shape}
 use Rattle.plane_view.specs.Plane.{Plane}
 use Rattle.plane_view.specs.Shapes.{IsShape}
 use Rattle.stage_core.specs.Planes.{IsPlane}
+use Rattle.stage_core.specs.Stages.{shape_of}
+use Rattle.stage_core.proofs.Formulas.{shape_is}
 use Rattle.stage_chain.specs.Chains.{whole_of}
 use Rattle.stage_deps.specs.declared.grid.Grid.{Grid}
 use Rattle.stage_deps.specs.Cells.{cells_at, meeting, meeting_from}
@@ -66,10 +68,14 @@ pub record IsOnTop {S : Type 0} (takes : S → Shape → Type 0) (shaped : S →
 
 pub on_top : {S : Type 0} (takes : S → Shape → Type 0) (shaped : S → Shape → Shape) (apply : S → Plane → Plane)
     → ((s : S) (t : Shape) → IsShape t → takes s t → IsShape (shaped s t)) → ((s : S) (t : Shape) (Q : Plane) → IsShape t → takes s t → IsPlane Q t → IsPlane (apply s Q) (shaped s t))
-    → (input : Shape) (P : Plane) (side : ℕ) (all below : List S) (stage : S) (all_layers lower : List Layer) (layer : Layer) (grid : Grid)
-    → all ≡ below ++ stage ∷ [] → length all ≡ length below + 1 → all_layers ≡ lower ++ layer ∷ [] → AreLayers takes shaped input all all_layers → IsShape input → IsPlane P input → grid.shape ≡ layer.shape → grid.side ≡ side
-    → IsOnTop takes shaped apply input P side all below stage lower layer grid
-on_top takes shaped apply shapes planes input P side all below stage all_layers lower layer grid split long split_layers are is is_P same same_side =
+    → (P : Plane) (told : Shape) → IsShape told → IsPlane P told → (side : ℕ) (all below : List S) (stage : S) (all_layers lower : List Layer) (layer : Layer) (grid : Grid)
+    → all ≡ below ++ stage ∷ [] → length all ≡ length below + 1 → all_layers ≡ lower ++ layer ∷ [] → AreLayers takes shaped (shape_of P) all all_layers → grid.shape ≡ layer.shape → grid.side ≡ side
+    → IsOnTop takes shaped apply (shape_of P) P side all below stage lower layer grid
+on_top takes shaped apply shapes planes P told is_told is_P_told side all below stage all_layers lower layer grid split long split_layers are same same_side =
+    let input : Shape = shape_of P in
+    let same_input : input ≡ told = shape_is P told is_P_told in
+    let is : IsShape input = subst IsShape (sym same_input) is_told in
+    let is_P : IsPlane P input = subst (λ (t : Shape). IsPlane P t) (sym same_input) is_P_told in
     let top = top_of takes shaped input all below stage all_layers lower layer split split_layers are in
     let low : layer.input ≡ last_shape shaped input below = top.stands in
     let made : grid.shape ≡ shaped stage layer.input = same ∙ top.is.shape in

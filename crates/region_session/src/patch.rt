@@ -141,15 +141,23 @@ impl Patch {
         fetch_into(base, k, cell, rect, planes, memory, work);
     }
 
-    /// Copies the cell of a plane from a cache, if it is held.
-    pub fn find<C: Cache>(&mut self, cache: &mut C, plane: u32, k: u32, cell: Rect) -> bool
+    /// Copies the cell of a plane from a cache into a window, if it is held.
+    pub fn find<C: Cache>(
+        &mut self,
+        cache: &mut C,
+        plane: u32,
+        k: u32,
+        cell: Rect,
+        window: Rect,
+    ) -> bool
+        requires inside { LiesIn window self.old.rect }
         requires plane { plane < length (C.marks cache.old).stamps }
         requires size { (C.held cache.old).holds plane k ≡ true → length ((C.held cache.old).samples plane k) ≡ area_of cell * self.old.planes }
         ensures found { result ≡ (C.held cache.old).holds plane k }
         ensures rect { self.new.rect ≡ self.old.rect }
         ensures planes { self.new.planes ≡ self.old.planes }
         ensures copies { result ≡ true → CopiesFrom self.old self.new
-            (record { rect = cell; planes = self.old.planes; samples = (C.held cache.old).samples plane k }) self.old.rect }
+            (record { rect = cell; planes = self.old.planes; samples = (C.held cache.old).samples plane k }) window }
         ensures stays { result ≡ false → self.new ≡ self.old }
         ensures held { SameHeld (C.held cache.old) (C.held cache.new) }
         ensures brings { result ≡ true → C.kept cache.new ≡ brought (C.kept cache.old) plane k }
@@ -158,7 +166,7 @@ impl Patch {
     {
         let Patch { rect, planes, .. } = *self;
         let memory = &mut self.samples;
-        find_into(cache, plane, k, cell, rect, planes, memory)
+        find_into(cache, plane, k, cell, window, rect, planes, memory)
     }
 }
 
@@ -283,16 +291,18 @@ fn find_into<C: Cache>(
     plane: u32,
     k: u32,
     cell: Rect,
+    window: Rect,
     rect: Rect,
     planes: u32,
     memory: &mut [u16],
 ) -> bool
+    requires inside { LiesIn window rect }
     requires plane { plane < length (C.marks cache.old).stamps }
     requires size { (C.held cache.old).holds plane k ≡ true → length ((C.held cache.old).samples plane k) ≡ area_of cell * planes }
     requires room { area_of rect * planes ≤ length memory.old }
     ensures found { result ≡ (C.held cache.old).holds plane k }
     ensures copies { result ≡ true → CopiesFrom (part_in rect planes memory.old) (part_in rect planes memory.new)
-        (record { rect = cell; planes = planes; samples = (C.held cache.old).samples plane k }) rect }
+        (record { rect = cell; planes = planes; samples = (C.held cache.old).samples plane k }) window }
     ensures stays { result ≡ false → memory.new ≡ memory.old }
     ensures held { SameHeld (C.held cache.old) (C.held cache.new) }
     ensures brings { result ≡ true → C.kept cache.new ≡ brought (C.kept cache.old) plane k }
@@ -300,7 +310,16 @@ fn find_into<C: Cache>(
     ensures marks { C.marks cache.new ≡ C.marks cache.old }
 {
     let count = rect.area() as usize * planes as usize;
-    find_tile(cache, plane, k, cell, rect, planes, &mut memory[..count])
+    find_tile(
+        cache,
+        plane,
+        k,
+        cell,
+        window,
+        rect,
+        planes,
+        &mut memory[..count],
+    )
 }
 
 /// The same, into the samples of the part.
@@ -309,16 +328,18 @@ fn find_tile<C: Cache>(
     plane: u32,
     k: u32,
     cell: Rect,
+    window: Rect,
     rect: Rect,
     planes: u32,
     samples: &mut [u16],
 ) -> bool
+    requires inside { LiesIn window rect }
     requires plane { plane < length (C.marks cache.old).stamps }
     requires size { (C.held cache.old).holds plane k ≡ true → length ((C.held cache.old).samples plane k) ≡ area_of cell * planes }
     requires long { length samples.old ≡ area_of rect * planes }
     ensures found { result ≡ (C.held cache.old).holds plane k }
     ensures copies { result ≡ true → CopiesFrom (record { rect = rect; planes = planes; samples = samples.old }) (record { rect = rect; planes = planes; samples = samples.new })
-        (record { rect = cell; planes = planes; samples = (C.held cache.old).samples plane k }) rect }
+        (record { rect = cell; planes = planes; samples = (C.held cache.old).samples plane k }) window }
     ensures stays { result ≡ false → samples.new ≡ samples.old }
     ensures held { SameHeld (C.held cache.old) (C.held cache.new) }
     ensures brings { result ≡ true → C.kept cache.new ≡ brought (C.kept cache.old) plane k }
@@ -326,5 +347,6 @@ fn find_tile<C: Cache>(
     ensures marks { C.marks cache.new ≡ C.marks cache.old }
 {
     let mut tile = TileMut::new(rect, planes, samples);
+    tile.focus(window);
     cache.find(plane, k, cell, &mut tile)
 }

@@ -12,9 +12,9 @@ ghost use Rattle.stage_core.specs.Planes.{IsPart, IsPlane};
 ghost use Rattle.stage_core.specs.Stages.{shape_of};
 ghost use Rattle.stage_deps.specs.Cells.{cell_at, cells_at, meeting};
 ghost use Rattle.stage_deps.specs.Grids.{grid_cells};
-ghost use Rattle.kept_cells.specs.Held.{HasCells, HasSizes, IsRight, SameHeld, TakesOf, TakesUpTo, fresh, missing};
+ghost use Rattle.kept_cells.specs.Held.{HasSizes, IsRight, SameHeld, TakesOf, TakesUpTo, fresh, missing};
 ghost use Rattle.kept_cells.specs.Kept.{brought_each, keep_base, put_each, size_of};
-ghost use Rattle.region_session.specs.Parts.{HaveSizes, Shows};
+ghost use Rattle.region_session.specs.Parts.{HasCells, HasWanted, HaveSizes, Shows};
 
 use crate::layers::Needed;
 use crate::patch::Patch;
@@ -33,17 +33,31 @@ pub(crate) struct Source<B> {
     pub fetched: u64,
 }
 
-/// Copies the cells of these numbers that are held into a part of their plane, and tells the numbers of the others.
+/// A part of a rectangle that has all pixels of it that are in one of these.
+fn window_of(around: Rect, wanted: &[Rect]) -> Rect
+    ensures inside { LiesIn result around }
+    ensures has { HasWanted result around wanted.now }
+{
+    match around.meet(&hull(wanted)) {
+        Some(window) => window,
+        None => around,
+    }
+}
+
+/// Copies the cells of these numbers that are held into a window of a part of their plane, and tells the numbers of the
+/// others.
 fn copy_fresh<C: Cache>(
     cache: &mut C,
     plane: u32,
     numbers: &[u32],
     rects: &[Rect],
+    window: Rect,
     patch: &mut Patch,
     rest: &mut Vec<u32>,
 ) -> Result<(), AllocError>
     requires plane { plane < length (C.marks cache.old).stamps }
     requires rects { length rects.now ≡ length numbers.now }
+    requires window { LiesIn window patch.old.rect }
     requires sizes { HaveSizes (C.held cache.old) plane patch.old.planes numbers.now rects.now }
     ensures rect { patch.new.rect ≡ patch.old.rect }
     ensures planes { patch.new.planes ≡ patch.old.planes }
@@ -51,13 +65,13 @@ fn copy_fresh<C: Cache>(
     ensures marks { C.marks cache.new ≡ C.marks cache.old }
     ensures missing { OnOk result (rest.new.items ≡ missing (C.held cache.old) plane numbers.now) }
     ensures kept { OnOk result (C.kept cache.new ≡ brought_each (C.kept cache.old) plane (fresh (C.held cache.old) plane numbers.now)) }
-    ensures cells { OnOk result ((P : Plane) (cells : List Rect) → P.planes ≡ patch.old.planes → rects.now ≡ cells_at cells numbers.now
+    ensures cells { OnOk result ((P : Plane) (wanted cells : List Rect) → HasWanted window patch.old.rect wanted → P.planes ≡ patch.old.planes → rects.now ≡ cells_at cells numbers.now
         → All (λ k. k < length cells) numbers.now → IsRight (C.held cache.old) plane P cells
-        → HasCells P patch.new cells (fresh (C.held cache.old) plane numbers.now)) }
+        → HasCells P patch.new wanted cells (fresh (C.held cache.old) plane numbers.now)) }
 {
     rest.clear();
     for i in 0..numbers.len() {
-        if !patch.find(cache, plane, numbers[i], rects[i]) {
+        if !patch.find(cache, plane, numbers[i], rects[i], window) {
             rest.push(numbers[i])?;
         }
     }
@@ -86,8 +100,8 @@ fn fetch_missing<B: Base, C: Cache, L: Ledger>(
     ensures rect { patch.new.rect ≡ patch.old.rect }
     ensures planes { patch.new.planes ≡ patch.old.planes }
     ensures marks { C.marks cache.new ≡ C.marks cache.old }
-    ensures copied { OnOk result ((done : List ℕ) → HasCells (B.plane base.old) patch.old (B.cells_of base.old) done
-        → HasCells (B.plane base.old) patch.new (B.cells_of base.old) (done ++ numbers.now)) }
+    ensures copied { OnOk result ((wanted : List Rect) (done : List ℕ) → HasCells (B.plane base.old) patch.old wanted (B.cells_of base.old) done
+        → HasCells (B.plane base.old) patch.new wanted (B.cells_of base.old) (done ++ numbers.now)) }
     ensures right { IsRight (C.held cache.old) 0 (B.plane base.old) (B.cells_of base.old) → IsRight (C.held cache.new) 0 (B.plane base.old) (B.cells_of base.old) }
     ensures others { TakesOf (C.held cache.old) (C.held cache.new) 0 }
     ensures kept { OnOk result (C.kept cache.new ≡ put_each (C.kept cache.old) 0 (size_of (B.cells_of base.old) (B.plane base.old).planes) numbers.now) }
@@ -132,10 +146,10 @@ pub(crate) fn run_missing<S: Stage, C: Cache, L: Ledger>(
     ensures rect { patch.new.rect ≡ patch.old.rect }
     ensures planes { patch.new.planes ≡ patch.old.planes }
     ensures marks { C.marks cache.new ≡ C.marks cache.old }
-    ensures copied { OnOk result ((P : Plane) (done : List ℕ) → IsPlane P input
+    ensures copied { OnOk result ((P : Plane) (wanted : List Rect) (done : List ℕ) → IsPlane P input
         → All (λ k. AgreesWith P lower.now (S.needed stage.now input (cell_at (grid_cells grid.now.shape grid.now.side) k))) numbers.now
-        → HasCells (S.apply stage.now P) patch.old (grid_cells grid.now.shape grid.now.side) done
-        → HasCells (S.apply stage.now P) patch.new (grid_cells grid.now.shape grid.now.side) (done ++ numbers.now)) }
+        → HasCells (S.apply stage.now P) patch.old wanted (grid_cells grid.now.shape grid.now.side) done
+        → HasCells (S.apply stage.now P) patch.new wanted (grid_cells grid.now.shape grid.now.side) (done ++ numbers.now)) }
     ensures right { (P : Plane) → IsPlane P input
         → All (λ k. AgreesWith P lower.now (S.needed stage.now input (cell_at (grid_cells grid.now.shape grid.now.side) k))) numbers.now
         → IsRight (C.held cache.old) plane (S.apply stage.now P) (grid_cells grid.now.shape grid.now.side)
@@ -183,8 +197,18 @@ pub(crate) fn fetch_wanted<B: Base, C: Cache, L: Ledger>(
     let shape = source.base.shape();
     meeting_cells(&source.cells, wanted, &mut own.numbers)?;
     rects_of(&source.cells, &own.numbers, &mut own.rects)?;
-    patch.reset(hull(&own.rects), shape.planes)?;
-    copy_fresh(cache, 0, &own.numbers, &own.rects, patch, &mut own.missing)?;
+    let around = hull(&own.rects);
+    patch.reset(around, shape.planes)?;
+    let window = window_of(around, wanted);
+    copy_fresh(
+        cache,
+        0,
+        &own.numbers,
+        &own.rects,
+        window,
+        patch,
+        &mut own.missing,
+    )?;
     fetch_missing(
         alloc,
         &mut source.base,
@@ -225,19 +249,22 @@ pub(crate) fn open_wanted<S: Stage, C: Cache>(
     ensures kept { OnOk result (C.kept cache.new ≡ brought_each (C.kept cache.old) plane
         (fresh (C.held cache.old) plane (meeting (grid_cells grid.now.shape grid.now.side) wanted.now))) }
     ensures cells { OnOk result ((P : Plane) → P.planes ≡ grid.now.shape.planes → IsRight (C.held cache.old) plane P (grid_cells grid.now.shape grid.now.side)
-        → HasCells P patch.new (grid_cells grid.now.shape grid.now.side)
+        → HasCells P patch.new wanted.now (grid_cells grid.now.shape grid.now.side)
         (fresh (C.held cache.old) plane (meeting (grid_cells grid.now.shape grid.now.side) wanted.now))) }
     ensures held { SameHeld (C.held cache.old) (C.held cache.new) }
     ensures marks { C.marks cache.new ≡ C.marks cache.old }
 {
     grid.meeting(wanted, &mut own.numbers)?;
     grid.rects_of(&own.numbers, &mut own.rects)?;
-    patch.reset(hull(&own.rects), grid.shape.planes)?;
+    let around = hull(&own.rects);
+    patch.reset(around, grid.shape.planes)?;
+    let window = window_of(around, wanted);
     copy_fresh(
         cache,
         plane,
         &own.numbers,
         &own.rects,
+        window,
         patch,
         &mut own.missing,
     )?;

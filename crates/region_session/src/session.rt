@@ -184,7 +184,7 @@ impl<B: Base, S: Stage> Session<B, S> {
     /// is missing. What is needed of a plane are the cells that meet what the missing ones of the plane above rest on.
     ///
     /// Keys of needed cells that were held come to the front, from the last plane down; then those of missing cells are
-    /// put, from plane 0 up, within a plane by rising number.
+    /// put, from plane 0 up, within a plane by rising number. Under a budget of 0 none is ever held.
     ///
     /// # Errors
     ///
@@ -205,9 +205,11 @@ impl<B: Base, S: Stage> Session<B, S> {
           ran = raised self.old.ran (missing_runs S.shaped S.needed self.old rect);
           keys = keys_after S.shaped S.needed self.old rect;
         }) }
+        ensures nothing { OnOk result (self.old.budget ≡ 0 → self.old.keys ≡ [] → self.new.keys ≡ []) }
         ensures kept_as_was { self.new ≡ record self.old { fetches = self.new.fetches; fetched = self.new.fetched; ran = self.new.ran; keys = self.new.keys } }
     {
         let alloc = *self.source.cells.allocator();
+        let _shape = self.source.base.shape();
         make(
             alloc,
             &mut self.source,

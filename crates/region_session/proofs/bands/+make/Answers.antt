@@ -13,21 +13,20 @@ use Rattle.plane_view.specs.Lent.{AgreesWith, Lent}
 use Rattle.stage_core.specs.Bases.{raised}
 use Rattle.stage_core.specs.Planes.{IsPart, IsPlane}
 use Rattle.stage_core.specs.Stages.{shape_of}
-use Rattle.stage_core.proofs.Formulas.{shape_is}
 use Rattle.stage_chain.specs.Chains.{whole_of}
 use Rattle.stage_deps.specs.declared.grid.Grid.{Grid}
 use Rattle.stage_deps.specs.Cells.{cell_at, cells_at, meeting}
 use Rattle.stage_deps.specs.Grids.{grid_cells}
 use Rattle.stage_deps.proofs.Coverage.{unmapped}
 use Rattle.stage_deps.proofs.GridCells.{grid_makes_up}
-use Rattle.kept_cells.specs.Held.{AreRight, HasCells, Held, IsRight, TakesUpTo, fresh, missing}
+use Rattle.kept_cells.specs.Held.{AreRight, Held, IsRight, TakesUpTo, fresh, missing}
 use Rattle.kept_cells.specs.Kept.{Kept, Marks, brought_each, keep, put_each, size_of}
 use Rattle.kept_cells.specs.Missing.{count_of_fetches, count_of_runs, needs_of}
 use Rattle.kept_cells.specs.Tiers.{Tier, developed, tiers_of}
 use Rattle.kept_cells.proofs.Keeping.{absent_later, keep_same, keep_top, missing_rises}
 use Rattle.kept_cells.proofs.Lower.{fetches_same, fetches_top, missing_bounds, right_same, rights_lower, rights_run, rights_same, runs_same, runs_top, takes_lower, takes_run}
 use Rattle.region_session.specs.declared.layers.Layer.{Layer}
-use Rattle.region_session.specs.Parts.{Shows}
+use Rattle.region_session.specs.Parts.{HasCells, Shows}
 use Rattle.region_session.specs.Stacks.{last_shape}
 use Rattle.region_session.proofs.Copying.{filled_from, missing_told}
 use Rattle.region_session.proofs.Counting.{raised_none}
@@ -48,102 +47,40 @@ unreachable-requires-in_default-split_last-2 g t c =
 
 pub new-grid-requires-clause-shape : goal.new-grid-requires-clause-shape
 new-grid-requires-clause-shape g t c =
-    let takes = g.S.Stage.takes in
-    let shaped = g.S.Stage.shaped in
     let P : Plane = g.B.Base.plane c.args.source.now.base in
     let input : Shape = shape_of P in
-    let all = c.args.stages.now in
-    let stage = c.in-Some-split_last.stage.now in
-    let below = c.in-Some-split_last.below.now in
-    let layer : Layer = c.in-Some-split_last-2.layer.now in
-    let lower : List Layer = c.in-Some-split_last-2.lower_layers.now in
-    let top = top_of takes shaped input all below stage c.args.layers.now lower layer c.in-Some-split_last.ensures.cases.0 c.in-Some-split_last-2.ensures.cases.0 c.requires.layers in
-    subst IsShape (sym top.is.shape) (g.met.S.Stage.makes_shapes stage layer.input top.is.input top.is.taken)
+    let top = top_of g.S.Stage.takes g.S.Stage.shaped input c.args.stages.now c.in-Some-split_last.below.now c.in-Some-split_last.stage.now c.args.layers.now c.in-Some-split_last-2.lower_layers.now c.in-Some-split_last-2.layer.now c.in-Some-split_last.ensures.cases.0 c.in-Some-split_last-2.ensures.cases.0 c.requires.layers in
+    subst IsShape (sym top.is.shape) (g.met.S.Stage.makes_shapes c.in-Some-split_last.stage.now c.in-Some-split_last-2.layer.now.input top.is.input top.is.taken)
 
 pub open_wanted-requires-clause-shape : goal.open_wanted-requires-clause-shape
 open_wanted-requires-clause-shape g t c =
-    let takes = g.S.Stage.takes in
-    let shaped = g.S.Stage.shaped in
-    let apply = g.S.Stage.apply in
     let P : Plane = g.B.Base.plane c.args.source.now.base in
-    let input : Shape = shape_of P in
-    let all = c.args.stages.now in
-    let stage = c.in-Some-split_last.stage.now in
-    let below = c.in-Some-split_last.below.now in
-    let layer : Layer = c.in-Some-split_last-2.layer.now in
-    let lower : List Layer = c.in-Some-split_last-2.lower_layers.now in
-    let same_input : input ≡ c.shape-shape.result = shape_is P c.shape-shape.result c.shape-shape.ensures.plane in
-    let is_input : IsShape input = subst IsShape (sym same_input) c.shape-shape.ensures.shape in
-    let is_P : IsPlane P input = subst (λ (t : Shape). IsPlane P t) (sym same_input) c.shape-shape.ensures.plane in
-    let grid : Grid = c.new-grid.result in
-    let side : ℕ = c.args.side in
-    let top = on_top takes shaped apply g.met.S.Stage.makes_shapes g.met.S.Stage.makes_planes input P side all below stage c.args.layers.now lower layer grid
-    c.in-Some-split_last.ensures.cases.0 (omega (arith, c.in-Some-split_last.ensures.cases.1)) c.in-Some-split_last-2.ensures.cases.0 c.requires.layers is_input is_P c.new-grid.ensures.shape c.new-grid.ensures.side in
+    let top = on_top g.S.Stage.takes g.S.Stage.shaped g.S.Stage.apply g.met.S.Stage.makes_shapes g.met.S.Stage.makes_planes P c.shape-shape.result c.shape-shape.ensures.shape c.shape-shape.ensures.plane c.args.side c.args.stages.now c.in-Some-split_last.below.now c.in-Some-split_last.stage.now c.args.layers.now c.in-Some-split_last-2.lower_layers.now c.in-Some-split_last-2.layer.now c.new-grid.result
+    c.in-Some-split_last.ensures.cases.0 (omega (arith, c.in-Some-split_last.ensures.cases.1)) c.in-Some-split_last-2.ensures.cases.0 c.requires.layers c.new-grid.ensures.shape c.new-grid.ensures.side in
     top.input
 
 pub open_wanted-requires-clause-takes : goal.open_wanted-requires-clause-takes
 open_wanted-requires-clause-takes g t c =
-    let takes = g.S.Stage.takes in
-    let shaped = g.S.Stage.shaped in
-    let apply = g.S.Stage.apply in
     let P : Plane = g.B.Base.plane c.args.source.now.base in
-    let input : Shape = shape_of P in
-    let all = c.args.stages.now in
-    let stage = c.in-Some-split_last.stage.now in
-    let below = c.in-Some-split_last.below.now in
-    let layer : Layer = c.in-Some-split_last-2.layer.now in
-    let lower : List Layer = c.in-Some-split_last-2.lower_layers.now in
-    let same_input : input ≡ c.shape-shape.result = shape_is P c.shape-shape.result c.shape-shape.ensures.plane in
-    let is_input : IsShape input = subst IsShape (sym same_input) c.shape-shape.ensures.shape in
-    let is_P : IsPlane P input = subst (λ (t : Shape). IsPlane P t) (sym same_input) c.shape-shape.ensures.plane in
-    let grid : Grid = c.new-grid.result in
-    let side : ℕ = c.args.side in
-    let top = on_top takes shaped apply g.met.S.Stage.makes_shapes g.met.S.Stage.makes_planes input P side all below stage c.args.layers.now lower layer grid
-    c.in-Some-split_last.ensures.cases.0 (omega (arith, c.in-Some-split_last.ensures.cases.1)) c.in-Some-split_last-2.ensures.cases.0 c.requires.layers is_input is_P c.new-grid.ensures.shape c.new-grid.ensures.side in
+    let top = on_top g.S.Stage.takes g.S.Stage.shaped g.S.Stage.apply g.met.S.Stage.makes_shapes g.met.S.Stage.makes_planes P c.shape-shape.result c.shape-shape.ensures.shape c.shape-shape.ensures.plane c.args.side c.args.stages.now c.in-Some-split_last.below.now c.in-Some-split_last.stage.now c.args.layers.now c.in-Some-split_last-2.lower_layers.now c.in-Some-split_last-2.layer.now c.new-grid.result
+    c.in-Some-split_last.ensures.cases.0 (omega (arith, c.in-Some-split_last.ensures.cases.1)) c.in-Some-split_last-2.ensures.cases.0 c.requires.layers c.new-grid.ensures.shape c.new-grid.ensures.side in
     top.taken
 
 pub open_wanted-requires-clause-grid : goal.open_wanted-requires-clause-grid
 open_wanted-requires-clause-grid g t c =
-    let takes = g.S.Stage.takes in
-    let shaped = g.S.Stage.shaped in
-    let apply = g.S.Stage.apply in
     let P : Plane = g.B.Base.plane c.args.source.now.base in
-    let input : Shape = shape_of P in
-    let all = c.args.stages.now in
-    let stage = c.in-Some-split_last.stage.now in
-    let below = c.in-Some-split_last.below.now in
-    let layer : Layer = c.in-Some-split_last-2.layer.now in
-    let lower : List Layer = c.in-Some-split_last-2.lower_layers.now in
-    let same_input : input ≡ c.shape-shape.result = shape_is P c.shape-shape.result c.shape-shape.ensures.plane in
-    let is_input : IsShape input = subst IsShape (sym same_input) c.shape-shape.ensures.shape in
-    let is_P : IsPlane P input = subst (λ (t : Shape). IsPlane P t) (sym same_input) c.shape-shape.ensures.plane in
-    let grid : Grid = c.new-grid.result in
-    let side : ℕ = c.args.side in
-    let top = on_top takes shaped apply g.met.S.Stage.makes_shapes g.met.S.Stage.makes_planes input P side all below stage c.args.layers.now lower layer grid
-    c.in-Some-split_last.ensures.cases.0 (omega (arith, c.in-Some-split_last.ensures.cases.1)) c.in-Some-split_last-2.ensures.cases.0 c.requires.layers is_input is_P c.new-grid.ensures.shape c.new-grid.ensures.side in
+    let top = on_top g.S.Stage.takes g.S.Stage.shaped g.S.Stage.apply g.met.S.Stage.makes_shapes g.met.S.Stage.makes_planes P c.shape-shape.result c.shape-shape.ensures.shape c.shape-shape.ensures.plane c.args.side c.args.stages.now c.in-Some-split_last.below.now c.in-Some-split_last.stage.now c.args.layers.now c.in-Some-split_last-2.lower_layers.now c.in-Some-split_last-2.layer.now c.new-grid.result
+    c.in-Some-split_last.ensures.cases.0 (omega (arith, c.in-Some-split_last.ensures.cases.1)) c.in-Some-split_last-2.ensures.cases.0 c.requires.layers c.new-grid.ensures.shape c.new-grid.ensures.side in
     top.grid
 
 pub open_wanted-requires-clause-sizes : goal.open_wanted-requires-clause-sizes
 open_wanted-requires-clause-sizes g t c =
-    let takes = g.S.Stage.takes in
-    let shaped = g.S.Stage.shaped in
-    let apply = g.S.Stage.apply in
     let P : Plane = g.B.Base.plane c.args.source.now.base in
     let input : Shape = shape_of P in
-    let all = c.args.stages.now in
-    let stage = c.in-Some-split_last.stage.now in
-    let below = c.in-Some-split_last.below.now in
-    let layer : Layer = c.in-Some-split_last-2.layer.now in
-    let lower : List Layer = c.in-Some-split_last-2.lower_layers.now in
-    let same_input : input ≡ c.shape-shape.result = shape_is P c.shape-shape.result c.shape-shape.ensures.plane in
-    let is_input : IsShape input = subst IsShape (sym same_input) c.shape-shape.ensures.shape in
-    let is_P : IsPlane P input = subst (λ (t : Shape). IsPlane P t) (sym same_input) c.shape-shape.ensures.plane in
-    let grid : Grid = c.new-grid.result in
-    let side : ℕ = c.args.side in
-    let top = on_top takes shaped apply g.met.S.Stage.makes_shapes g.met.S.Stage.makes_planes input P side all below stage c.args.layers.now lower layer grid
-    c.in-Some-split_last.ensures.cases.0 (omega (arith, c.in-Some-split_last.ensures.cases.1)) c.in-Some-split_last-2.ensures.cases.0 c.requires.layers is_input is_P c.new-grid.ensures.shape c.new-grid.ensures.side in
+    let top = on_top g.S.Stage.takes g.S.Stage.shaped g.S.Stage.apply g.met.S.Stage.makes_shapes g.met.S.Stage.makes_planes P c.shape-shape.result c.shape-shape.ensures.shape c.shape-shape.ensures.plane c.args.side c.args.stages.now c.in-Some-split_last.below.now c.in-Some-split_last.stage.now c.args.layers.now c.in-Some-split_last-2.lower_layers.now c.in-Some-split_last-2.layer.now c.new-grid.result
+    c.in-Some-split_last.ensures.cases.0 (omega (arith, c.in-Some-split_last.ensures.cases.1)) c.in-Some-split_last-2.ensures.cases.0 c.requires.layers c.new-grid.ensures.shape c.new-grid.ensures.side in
     let held : Held = g.C.Cache.held c.args.cache.now in
-    let kept = held_on_top takes shaped apply held input P side all below stage lower layer grid top c.requires.right in
+    let kept = held_on_top g.S.Stage.takes g.S.Stage.shaped g.S.Stage.apply held input P c.args.side c.args.stages.now c.in-Some-split_last.below.now c.in-Some-split_last.stage.now c.in-Some-split_last-2.lower_layers.now c.in-Some-split_last-2.layer.now c.new-grid.result top c.requires.right in
     kept.sizes
 
 pub returns-in_err-open_wanted-clause-right : goal.returns-in_err-open_wanted-clause-right
@@ -158,70 +95,35 @@ returns-then-is_empty-clause-right g t c =
 
 pub returns-then-is_empty-clause-whole : goal.returns-then-is_empty-clause-whole
 returns-then-is_empty-clause-whole g t c =
-    let takes = g.S.Stage.takes in
-    let shaped = g.S.Stage.shaped in
-    let apply = g.S.Stage.apply in
     let P : Plane = g.B.Base.plane c.args.source.now.base in
     let input : Shape = shape_of P in
-    let all = c.args.stages.now in
-    let stage = c.in-Some-split_last.stage.now in
-    let below = c.in-Some-split_last.below.now in
-    let layer : Layer = c.in-Some-split_last-2.layer.now in
-    let lower : List Layer = c.in-Some-split_last-2.lower_layers.now in
-    let same_input : input ≡ c.shape-shape.result = shape_is P c.shape-shape.result c.shape-shape.ensures.plane in
-    let is_input : IsShape input = subst IsShape (sym same_input) c.shape-shape.ensures.shape in
-    let is_P : IsPlane P input = subst (λ (t : Shape). IsPlane P t) (sym same_input) c.shape-shape.ensures.plane in
-    let grid : Grid = c.new-grid.result in
-    let side : ℕ = c.args.side in
-    let top = on_top takes shaped apply g.met.S.Stage.makes_shapes g.met.S.Stage.makes_planes input P side all below stage c.args.layers.now lower layer grid
-    c.in-Some-split_last.ensures.cases.0 (omega (arith, c.in-Some-split_last.ensures.cases.1)) c.in-Some-split_last-2.ensures.cases.0 c.requires.layers is_input is_P c.new-grid.ensures.shape c.new-grid.ensures.side in
-    subst (λ (X : Plane). IsPlane X (last_shape shaped input all)) (sym top.whole) (subst (λ (t : Shape). IsPlane (apply stage (whole_of apply below P)) t) (sym top.last) top.own)
+    let top = on_top g.S.Stage.takes g.S.Stage.shaped g.S.Stage.apply g.met.S.Stage.makes_shapes g.met.S.Stage.makes_planes P c.shape-shape.result c.shape-shape.ensures.shape c.shape-shape.ensures.plane c.args.side c.args.stages.now c.in-Some-split_last.below.now c.in-Some-split_last.stage.now c.args.layers.now c.in-Some-split_last-2.lower_layers.now c.in-Some-split_last-2.layer.now c.new-grid.result
+    c.in-Some-split_last.ensures.cases.0 (omega (arith, c.in-Some-split_last.ensures.cases.1)) c.in-Some-split_last-2.ensures.cases.0 c.requires.layers c.new-grid.ensures.shape c.new-grid.ensures.side in
+    subst (λ (X : Plane). IsPlane X (last_shape g.S.Stage.shaped input c.args.stages.now)) (sym top.whole) (subst (λ (t : Shape). IsPlane (g.S.Stage.apply c.in-Some-split_last.stage.now (whole_of g.S.Stage.apply c.in-Some-split_last.below.now P)) t) (sym top.last) top.own)
 
 pub returns-then-is_empty-clause-planes : goal.returns-then-is_empty-clause-planes
 returns-then-is_empty-clause-planes g t c =
-    let takes = g.S.Stage.takes in
-    let shaped = g.S.Stage.shaped in
-    let apply = g.S.Stage.apply in
     let P : Plane = g.B.Base.plane c.args.source.now.base in
-    let input : Shape = shape_of P in
-    let all = c.args.stages.now in
-    let stage = c.in-Some-split_last.stage.now in
-    let below = c.in-Some-split_last.below.now in
-    let layer : Layer = c.in-Some-split_last-2.layer.now in
-    let lower : List Layer = c.in-Some-split_last-2.lower_layers.now in
-    let same_input : input ≡ c.shape-shape.result = shape_is P c.shape-shape.result c.shape-shape.ensures.plane in
-    let is_input : IsShape input = subst IsShape (sym same_input) c.shape-shape.ensures.shape in
-    let is_P : IsPlane P input = subst (λ (t : Shape). IsPlane P t) (sym same_input) c.shape-shape.ensures.plane in
-    let grid : Grid = c.new-grid.result in
-    let side : ℕ = c.args.side in
-    let top = on_top takes shaped apply g.met.S.Stage.makes_shapes g.met.S.Stage.makes_planes input P side all below stage c.args.layers.now lower layer grid
-    c.in-Some-split_last.ensures.cases.0 (omega (arith, c.in-Some-split_last.ensures.cases.1)) c.in-Some-split_last-2.ensures.cases.0 c.requires.layers is_input is_P c.new-grid.ensures.shape c.new-grid.ensures.side in
+    let top = on_top g.S.Stage.takes g.S.Stage.shaped g.S.Stage.apply g.met.S.Stage.makes_shapes g.met.S.Stage.makes_planes P c.shape-shape.result c.shape-shape.ensures.shape c.shape-shape.ensures.plane c.args.side c.args.stages.now c.in-Some-split_last.below.now c.in-Some-split_last.stage.now c.args.layers.now c.in-Some-split_last-2.lower_layers.now c.in-Some-split_last-2.layer.now c.new-grid.result
+    c.in-Some-split_last.ensures.cases.0 (omega (arith, c.in-Some-split_last.ensures.cases.1)) c.in-Some-split_last-2.ensures.cases.0 c.requires.layers c.new-grid.ensures.shape c.new-grid.ensures.side in
     c.in_ok-open_wanted.ensures.planes ∙ ap (λ (t : Shape). t.planes) (sym top.last)
 
 pub returns-then-is_empty-clause-shows : goal.returns-then-is_empty-clause-shows
 returns-then-is_empty-clause-shows g t c =
-    let takes = g.S.Stage.takes in
-    let shaped = g.S.Stage.shaped in
     let apply = g.S.Stage.apply in
     let P : Plane = g.B.Base.plane c.args.source.now.base in
     let input : Shape = shape_of P in
     let all = c.args.stages.now in
     let stage = c.in-Some-split_last.stage.now in
     let below = c.in-Some-split_last.below.now in
-    let layer : Layer = c.in-Some-split_last-2.layer.now in
-    let lower : List Layer = c.in-Some-split_last-2.lower_layers.now in
-    let same_input : input ≡ c.shape-shape.result = shape_is P c.shape-shape.result c.shape-shape.ensures.plane in
-    let is_input : IsShape input = subst IsShape (sym same_input) c.shape-shape.ensures.shape in
-    let is_P : IsPlane P input = subst (λ (t : Shape). IsPlane P t) (sym same_input) c.shape-shape.ensures.plane in
     let grid : Grid = c.new-grid.result in
-    let side : ℕ = c.args.side in
-    let top = on_top takes shaped apply g.met.S.Stage.makes_shapes g.met.S.Stage.makes_planes input P side all below stage c.args.layers.now lower layer grid
-    c.in-Some-split_last.ensures.cases.0 (omega (arith, c.in-Some-split_last.ensures.cases.1)) c.in-Some-split_last-2.ensures.cases.0 c.requires.layers is_input is_P c.new-grid.ensures.shape c.new-grid.ensures.side in
+    let top = on_top g.S.Stage.takes g.S.Stage.shaped apply g.met.S.Stage.makes_shapes g.met.S.Stage.makes_planes P c.shape-shape.result c.shape-shape.ensures.shape c.shape-shape.ensures.plane c.args.side all below stage c.args.layers.now c.in-Some-split_last-2.lower_layers.now c.in-Some-split_last-2.layer.now grid
+    c.in-Some-split_last.ensures.cases.0 (omega (arith, c.in-Some-split_last.ensures.cases.1)) c.in-Some-split_last-2.ensures.cases.0 c.requires.layers c.new-grid.ensures.shape c.new-grid.ensures.side in
     let cells : List Rect = grid_cells grid.shape grid.side in
     let plane : ℕ = length all in
     let held : Held = g.C.Cache.held c.args.cache.now in
     let wanted : List Rect = c.args.wanted.now in
-    let kept = held_on_top takes shaped apply held input P side all below stage lower layer grid top c.requires.right in
+    let kept = held_on_top g.S.Stage.takes g.S.Stage.shaped apply held input P c.args.side all below stage c.in-Some-split_last-2.lower_layers.now c.in-Some-split_last-2.layer.now grid top c.requires.right in
     let numbers : List ℕ = meeting cells wanted in
     let gone : List ℕ = missing held plane numbers in
     let empty : c.open_wanted.new.own.missing.items ≡ [] = none_of c.open_wanted.new.own.missing.items (omega (arith, eqb-true _ _ (sym c.is_empty.ensures ∙ c.if-is_empty.true), c.open_wanted.new.own.missing.ok)) in
@@ -230,37 +132,29 @@ returns-then-is_empty-clause-shows g t c =
     let up = grid_makes_up grid.shape grid.side (omega (arith, grid.least)) in
     let R : Plane = apply stage (whole_of apply below P) in
     let patch : Lent = c.open_wanted.new.patch in
-    let had : HasCells R patch cells (fresh held plane numbers) = c.in_ok-open_wanted.ensures.cells R top.own.shape.planes kept.right in
+    let had : HasCells R patch wanted cells (fresh held plane numbers) = c.in_ok-open_wanted.ensures.cells R top.own.shape.planes kept.right in
     let more : fresh held plane numbers ++ gone ≡ fresh held plane numbers = ap (λ (xs : List ℕ). fresh held plane numbers ++ xs) none ∙ append-nil (fresh held plane numbers) in
-    let filled : HasCells R patch cells (fresh held plane numbers ++ gone) = subst (λ (xs : List ℕ). HasCells R patch cells xs) (sym more) had in
+    let filled : HasCells R patch wanted cells (fresh held plane numbers ++ gone) = subst (λ (xs : List ℕ). HasCells R patch wanted cells xs) (sym more) had in
     subst (λ (X : Plane). All (Shows X patch) wanted) (sym top.whole)
-    (shows_wanted R patch grid.shape cells wanted up parts c.in_ok-open_wanted.ensures.lie (filled_from R patch cells held plane numbers filled))
+    (shows_wanted R patch grid.shape cells wanted up parts c.in_ok-open_wanted.ensures.lie (filled_from R patch wanted cells held plane numbers filled))
 
 pub returns-then-is_empty-clause-work : goal.returns-then-is_empty-clause-work
 returns-then-is_empty-clause-work g t c =
-    let takes = g.S.Stage.takes in
-    let shaped = g.S.Stage.shaped in
-    let apply = g.S.Stage.apply in
     let need = g.S.Stage.needed in
     let P : Plane = g.B.Base.plane c.args.source.now.base in
     let input : Shape = shape_of P in
     let all = c.args.stages.now in
     let stage = c.in-Some-split_last.stage.now in
-    let below = c.in-Some-split_last.below.now in
     let layer : Layer = c.in-Some-split_last-2.layer.now in
-    let lower : List Layer = c.in-Some-split_last-2.lower_layers.now in
-    let same_input : input ≡ c.shape-shape.result = shape_is P c.shape-shape.result c.shape-shape.ensures.plane in
-    let is_input : IsShape input = subst IsShape (sym same_input) c.shape-shape.ensures.shape in
-    let is_P : IsPlane P input = subst (λ (t : Shape). IsPlane P t) (sym same_input) c.shape-shape.ensures.plane in
     let grid : Grid = c.new-grid.result in
     let side : ℕ = c.args.side in
-    let top = on_top takes shaped apply g.met.S.Stage.makes_shapes g.met.S.Stage.makes_planes input P side all below stage c.args.layers.now lower layer grid
-    c.in-Some-split_last.ensures.cases.0 (omega (arith, c.in-Some-split_last.ensures.cases.1)) c.in-Some-split_last-2.ensures.cases.0 c.requires.layers is_input is_P c.new-grid.ensures.shape c.new-grid.ensures.side in
+    let top = on_top g.S.Stage.takes g.S.Stage.shaped g.S.Stage.apply g.met.S.Stage.makes_shapes g.met.S.Stage.makes_planes P c.shape-shape.result c.shape-shape.ensures.shape c.shape-shape.ensures.plane side all c.in-Some-split_last.below.now stage c.args.layers.now c.in-Some-split_last-2.lower_layers.now layer grid
+    c.in-Some-split_last.ensures.cases.0 (omega (arith, c.in-Some-split_last.ensures.cases.1)) c.in-Some-split_last-2.ensures.cases.0 c.requires.layers c.new-grid.ensures.shape c.new-grid.ensures.side in
     let cells : List Rect = grid_cells grid.shape grid.side in
     let plane : ℕ = length all in
     let tier : Tier _ = tier_on stage layer grid in
-    let tiers : List (Tier _) = tiers_of shaped side input below in
-    let all_tiers : List (Tier _) = tiers_of shaped side input all in
+    let tiers : List (Tier _) = tiers_of g.S.Stage.shaped side input c.in-Some-split_last.below.now in
+    let all_tiers : List (Tier _) = tiers_of g.S.Stage.shaped side input all in
     let held : Held = g.C.Cache.held c.args.cache.now in
     let wanted : List Rect = c.args.wanted.now in
     let numbers : List ℕ = meeting cells wanted in
@@ -278,29 +172,21 @@ returns-then-is_empty-clause-work g t c =
 
 pub returns-then-is_empty-clause-count : goal.returns-then-is_empty-clause-count
 returns-then-is_empty-clause-count g t c =
-    let takes = g.S.Stage.takes in
-    let shaped = g.S.Stage.shaped in
-    let apply = g.S.Stage.apply in
     let need = g.S.Stage.needed in
     let P : Plane = g.B.Base.plane c.args.source.now.base in
     let input : Shape = shape_of P in
     let all = c.args.stages.now in
     let stage = c.in-Some-split_last.stage.now in
-    let below = c.in-Some-split_last.below.now in
     let layer : Layer = c.in-Some-split_last-2.layer.now in
-    let lower : List Layer = c.in-Some-split_last-2.lower_layers.now in
-    let same_input : input ≡ c.shape-shape.result = shape_is P c.shape-shape.result c.shape-shape.ensures.plane in
-    let is_input : IsShape input = subst IsShape (sym same_input) c.shape-shape.ensures.shape in
-    let is_P : IsPlane P input = subst (λ (t : Shape). IsPlane P t) (sym same_input) c.shape-shape.ensures.plane in
     let grid : Grid = c.new-grid.result in
     let side : ℕ = c.args.side in
-    let top = on_top takes shaped apply g.met.S.Stage.makes_shapes g.met.S.Stage.makes_planes input P side all below stage c.args.layers.now lower layer grid
-    c.in-Some-split_last.ensures.cases.0 (omega (arith, c.in-Some-split_last.ensures.cases.1)) c.in-Some-split_last-2.ensures.cases.0 c.requires.layers is_input is_P c.new-grid.ensures.shape c.new-grid.ensures.side in
+    let top = on_top g.S.Stage.takes g.S.Stage.shaped g.S.Stage.apply g.met.S.Stage.makes_shapes g.met.S.Stage.makes_planes P c.shape-shape.result c.shape-shape.ensures.shape c.shape-shape.ensures.plane side all c.in-Some-split_last.below.now stage c.args.layers.now c.in-Some-split_last-2.lower_layers.now layer grid
+    c.in-Some-split_last.ensures.cases.0 (omega (arith, c.in-Some-split_last.ensures.cases.1)) c.in-Some-split_last-2.ensures.cases.0 c.requires.layers c.new-grid.ensures.shape c.new-grid.ensures.side in
     let cells : List Rect = grid_cells grid.shape grid.side in
     let plane : ℕ = length all in
     let tier : Tier _ = tier_on stage layer grid in
-    let tiers : List (Tier _) = tiers_of shaped side input below in
-    let all_tiers : List (Tier _) = tiers_of shaped side input all in
+    let tiers : List (Tier _) = tiers_of g.S.Stage.shaped side input c.in-Some-split_last.below.now in
+    let all_tiers : List (Tier _) = tiers_of g.S.Stage.shaped side input all in
     let held : Held = g.C.Cache.held c.args.cache.now in
     let wanted : List Rect = c.args.wanted.now in
     let numbers : List ℕ = meeting cells wanted in
@@ -315,29 +201,21 @@ returns-then-is_empty-clause-count g t c =
 
 pub returns-then-is_empty-clause-fetched : goal.returns-then-is_empty-clause-fetched
 returns-then-is_empty-clause-fetched g t c =
-    let takes = g.S.Stage.takes in
-    let shaped = g.S.Stage.shaped in
-    let apply = g.S.Stage.apply in
     let need = g.S.Stage.needed in
     let P : Plane = g.B.Base.plane c.args.source.now.base in
     let input : Shape = shape_of P in
     let all = c.args.stages.now in
     let stage = c.in-Some-split_last.stage.now in
-    let below = c.in-Some-split_last.below.now in
     let layer : Layer = c.in-Some-split_last-2.layer.now in
-    let lower : List Layer = c.in-Some-split_last-2.lower_layers.now in
-    let same_input : input ≡ c.shape-shape.result = shape_is P c.shape-shape.result c.shape-shape.ensures.plane in
-    let is_input : IsShape input = subst IsShape (sym same_input) c.shape-shape.ensures.shape in
-    let is_P : IsPlane P input = subst (λ (t : Shape). IsPlane P t) (sym same_input) c.shape-shape.ensures.plane in
     let grid : Grid = c.new-grid.result in
     let side : ℕ = c.args.side in
-    let top = on_top takes shaped apply g.met.S.Stage.makes_shapes g.met.S.Stage.makes_planes input P side all below stage c.args.layers.now lower layer grid
-    c.in-Some-split_last.ensures.cases.0 (omega (arith, c.in-Some-split_last.ensures.cases.1)) c.in-Some-split_last-2.ensures.cases.0 c.requires.layers is_input is_P c.new-grid.ensures.shape c.new-grid.ensures.side in
+    let top = on_top g.S.Stage.takes g.S.Stage.shaped g.S.Stage.apply g.met.S.Stage.makes_shapes g.met.S.Stage.makes_planes P c.shape-shape.result c.shape-shape.ensures.shape c.shape-shape.ensures.plane side all c.in-Some-split_last.below.now stage c.args.layers.now c.in-Some-split_last-2.lower_layers.now layer grid
+    c.in-Some-split_last.ensures.cases.0 (omega (arith, c.in-Some-split_last.ensures.cases.1)) c.in-Some-split_last-2.ensures.cases.0 c.requires.layers c.new-grid.ensures.shape c.new-grid.ensures.side in
     let cells : List Rect = grid_cells grid.shape grid.side in
     let plane : ℕ = length all in
     let tier : Tier _ = tier_on stage layer grid in
-    let tiers : List (Tier _) = tiers_of shaped side input below in
-    let all_tiers : List (Tier _) = tiers_of shaped side input all in
+    let tiers : List (Tier _) = tiers_of g.S.Stage.shaped side input c.in-Some-split_last.below.now in
+    let all_tiers : List (Tier _) = tiers_of g.S.Stage.shaped side input all in
     let held : Held = g.C.Cache.held c.args.cache.now in
     let wanted : List Rect = c.args.wanted.now in
     let numbers : List ℕ = meeting cells wanted in
@@ -352,29 +230,21 @@ returns-then-is_empty-clause-fetched g t c =
 
 pub returns-then-is_empty-clause-ran : goal.returns-then-is_empty-clause-ran
 returns-then-is_empty-clause-ran g t c =
-    let takes = g.S.Stage.takes in
-    let shaped = g.S.Stage.shaped in
-    let apply = g.S.Stage.apply in
     let need = g.S.Stage.needed in
     let P : Plane = g.B.Base.plane c.args.source.now.base in
     let input : Shape = shape_of P in
     let all = c.args.stages.now in
     let stage = c.in-Some-split_last.stage.now in
-    let below = c.in-Some-split_last.below.now in
     let layer : Layer = c.in-Some-split_last-2.layer.now in
-    let lower : List Layer = c.in-Some-split_last-2.lower_layers.now in
-    let same_input : input ≡ c.shape-shape.result = shape_is P c.shape-shape.result c.shape-shape.ensures.plane in
-    let is_input : IsShape input = subst IsShape (sym same_input) c.shape-shape.ensures.shape in
-    let is_P : IsPlane P input = subst (λ (t : Shape). IsPlane P t) (sym same_input) c.shape-shape.ensures.plane in
     let grid : Grid = c.new-grid.result in
     let side : ℕ = c.args.side in
-    let top = on_top takes shaped apply g.met.S.Stage.makes_shapes g.met.S.Stage.makes_planes input P side all below stage c.args.layers.now lower layer grid
-    c.in-Some-split_last.ensures.cases.0 (omega (arith, c.in-Some-split_last.ensures.cases.1)) c.in-Some-split_last-2.ensures.cases.0 c.requires.layers is_input is_P c.new-grid.ensures.shape c.new-grid.ensures.side in
+    let top = on_top g.S.Stage.takes g.S.Stage.shaped g.S.Stage.apply g.met.S.Stage.makes_shapes g.met.S.Stage.makes_planes P c.shape-shape.result c.shape-shape.ensures.shape c.shape-shape.ensures.plane side all c.in-Some-split_last.below.now stage c.args.layers.now c.in-Some-split_last-2.lower_layers.now layer grid
+    c.in-Some-split_last.ensures.cases.0 (omega (arith, c.in-Some-split_last.ensures.cases.1)) c.in-Some-split_last-2.ensures.cases.0 c.requires.layers c.new-grid.ensures.shape c.new-grid.ensures.side in
     let cells : List Rect = grid_cells grid.shape grid.side in
     let plane : ℕ = length all in
     let tier : Tier _ = tier_on stage layer grid in
-    let tiers : List (Tier _) = tiers_of shaped side input below in
-    let all_tiers : List (Tier _) = tiers_of shaped side input all in
+    let tiers : List (Tier _) = tiers_of g.S.Stage.shaped side input c.in-Some-split_last.below.now in
+    let all_tiers : List (Tier _) = tiers_of g.S.Stage.shaped side input all in
     let held : Held = g.C.Cache.held c.args.cache.now in
     let wanted : List Rect = c.args.wanted.now in
     let numbers : List ℕ = meeting cells wanted in
@@ -389,29 +259,21 @@ returns-then-is_empty-clause-ran g t c =
 
 pub returns-then-is_empty-clause-kept : goal.returns-then-is_empty-clause-kept
 returns-then-is_empty-clause-kept g t c =
-    let takes = g.S.Stage.takes in
-    let shaped = g.S.Stage.shaped in
-    let apply = g.S.Stage.apply in
     let need = g.S.Stage.needed in
     let P : Plane = g.B.Base.plane c.args.source.now.base in
     let input : Shape = shape_of P in
     let all = c.args.stages.now in
     let stage = c.in-Some-split_last.stage.now in
-    let below = c.in-Some-split_last.below.now in
     let layer : Layer = c.in-Some-split_last-2.layer.now in
-    let lower : List Layer = c.in-Some-split_last-2.lower_layers.now in
-    let same_input : input ≡ c.shape-shape.result = shape_is P c.shape-shape.result c.shape-shape.ensures.plane in
-    let is_input : IsShape input = subst IsShape (sym same_input) c.shape-shape.ensures.shape in
-    let is_P : IsPlane P input = subst (λ (t : Shape). IsPlane P t) (sym same_input) c.shape-shape.ensures.plane in
     let grid : Grid = c.new-grid.result in
     let side : ℕ = c.args.side in
-    let top = on_top takes shaped apply g.met.S.Stage.makes_shapes g.met.S.Stage.makes_planes input P side all below stage c.args.layers.now lower layer grid
-    c.in-Some-split_last.ensures.cases.0 (omega (arith, c.in-Some-split_last.ensures.cases.1)) c.in-Some-split_last-2.ensures.cases.0 c.requires.layers is_input is_P c.new-grid.ensures.shape c.new-grid.ensures.side in
+    let top = on_top g.S.Stage.takes g.S.Stage.shaped g.S.Stage.apply g.met.S.Stage.makes_shapes g.met.S.Stage.makes_planes P c.shape-shape.result c.shape-shape.ensures.shape c.shape-shape.ensures.plane side all c.in-Some-split_last.below.now stage c.args.layers.now c.in-Some-split_last-2.lower_layers.now layer grid
+    c.in-Some-split_last.ensures.cases.0 (omega (arith, c.in-Some-split_last.ensures.cases.1)) c.in-Some-split_last-2.ensures.cases.0 c.requires.layers c.new-grid.ensures.shape c.new-grid.ensures.side in
     let cells : List Rect = grid_cells grid.shape grid.side in
     let plane : ℕ = length all in
     let tier : Tier _ = tier_on stage layer grid in
-    let tiers : List (Tier _) = tiers_of shaped side input below in
-    let all_tiers : List (Tier _) = tiers_of shaped side input all in
+    let tiers : List (Tier _) = tiers_of g.S.Stage.shaped side input c.in-Some-split_last.below.now in
+    let all_tiers : List (Tier _) = tiers_of g.S.Stage.shaped side input all in
     let held : Held = g.C.Cache.held c.args.cache.now in
     let wanted : List Rect = c.args.wanted.now in
     let numbers : List ℕ = meeting cells wanted in
@@ -432,9 +294,7 @@ returns-then-is_empty-clause-kept g t c =
 
 pub make-requires : goal.make-requires
 make-requires g t c κs within =
-    let takes = g.S.Stage.takes in
     let shaped = g.S.Stage.shaped in
-    let apply = g.S.Stage.apply in
     let need = g.S.Stage.needed in
     let P : Plane = g.B.Base.plane c.args.source.now.base in
     let input : Shape = shape_of P in
@@ -442,21 +302,17 @@ make-requires g t c κs within =
     let stage = c.in-Some-split_last.stage.now in
     let below = c.in-Some-split_last.below.now in
     let layer : Layer = c.in-Some-split_last-2.layer.now in
-    let lower : List Layer = c.in-Some-split_last-2.lower_layers.now in
-    let same_input : input ≡ c.shape-shape.result = shape_is P c.shape-shape.result c.shape-shape.ensures.plane in
-    let is_input : IsShape input = subst IsShape (sym same_input) c.shape-shape.ensures.shape in
-    let is_P : IsPlane P input = subst (λ (t : Shape). IsPlane P t) (sym same_input) c.shape-shape.ensures.plane in
     let grid : Grid = c.new-grid.result in
     let side : ℕ = c.args.side in
-    let top = on_top takes shaped apply g.met.S.Stage.makes_shapes g.met.S.Stage.makes_planes input P side all below stage c.args.layers.now lower layer grid
-    c.in-Some-split_last.ensures.cases.0 (omega (arith, c.in-Some-split_last.ensures.cases.1)) c.in-Some-split_last-2.ensures.cases.0 c.requires.layers is_input is_P c.new-grid.ensures.shape c.new-grid.ensures.side in
+    let top = on_top g.S.Stage.takes shaped g.S.Stage.apply g.met.S.Stage.makes_shapes g.met.S.Stage.makes_planes P c.shape-shape.result c.shape-shape.ensures.shape c.shape-shape.ensures.plane side all below stage c.args.layers.now c.in-Some-split_last-2.lower_layers.now layer grid
+    c.in-Some-split_last.ensures.cases.0 (omega (arith, c.in-Some-split_last.ensures.cases.1)) c.in-Some-split_last-2.ensures.cases.0 c.requires.layers c.new-grid.ensures.shape c.new-grid.ensures.side in
     let cells : List Rect = grid_cells grid.shape grid.side in
     let plane : ℕ = length all in
     let tier : Tier _ = tier_on stage layer grid in
     let tiers : List (Tier _) = tiers_of shaped side input below in
     let held : Held = g.C.Cache.held c.args.cache.now in
     let wanted : List Rect = c.args.wanted.now in
-    let kept = held_on_top takes shaped apply held input P side all below stage lower layer grid top c.requires.right in
+    let kept = held_on_top g.S.Stage.takes shaped g.S.Stage.apply held input P side all below stage c.in-Some-split_last-2.lower_layers.now layer grid top c.requires.right in
     let opened : Held = g.C.Cache.held c.open_wanted.new.cache in
     let numbers : List ℕ = meeting cells wanted in
     let gone : List ℕ = missing held plane numbers in
@@ -498,7 +354,7 @@ make-requires g t c κs within =
                             room,
                             (
                               parts,
-                              (right_same held opened 0 P (g.B.Base.cells_of c.args.source.now.base) c.open_wanted.ensures.held c.requires.base_right, rights_same apply held opened P tiers c.open_wanted.ensures.held kept.rights),
+                              (right_same held opened 0 P (g.B.Base.cells_of c.args.source.now.base) c.open_wanted.ensures.held c.requires.base_right, rights_same g.S.Stage.apply held opened P tiers c.open_wanted.ensures.held kept.rights),
                             ),
                           ),
                         ),
@@ -515,246 +371,150 @@ make-requires g t c κs within =
 
 pub returns-in_err-make-clause-right : goal.returns-in_err-make-clause-right
 returns-in_err-make-clause-right g t c =
-    let takes = g.S.Stage.takes in
     let shaped = g.S.Stage.shaped in
-    let apply = g.S.Stage.apply in
     let P : Plane = g.B.Base.plane c.args.source.now.base in
     let input : Shape = shape_of P in
-    let all = c.args.stages.now in
-    let stage = c.in-Some-split_last.stage.now in
     let below = c.in-Some-split_last.below.now in
-    let layer : Layer = c.in-Some-split_last-2.layer.now in
-    let lower : List Layer = c.in-Some-split_last-2.lower_layers.now in
-    let same_input : input ≡ c.shape-shape.result = shape_is P c.shape-shape.result c.shape-shape.ensures.plane in
-    let is_input : IsShape input = subst IsShape (sym same_input) c.shape-shape.ensures.shape in
-    let is_P : IsPlane P input = subst (λ (t : Shape). IsPlane P t) (sym same_input) c.shape-shape.ensures.plane in
-    let grid : Grid = c.new-grid.result in
     let side : ℕ = c.args.side in
-    let top = on_top takes shaped apply g.met.S.Stage.makes_shapes g.met.S.Stage.makes_planes input P side all below stage c.args.layers.now lower layer grid
-    c.in-Some-split_last.ensures.cases.0 (omega (arith, c.in-Some-split_last.ensures.cases.1)) c.in-Some-split_last-2.ensures.cases.0 c.requires.layers is_input is_P c.new-grid.ensures.shape c.new-grid.ensures.side in
-    let tier : Tier _ = tier_on stage layer grid in
+    let top = on_top g.S.Stage.takes shaped g.S.Stage.apply g.met.S.Stage.makes_shapes g.met.S.Stage.makes_planes P c.shape-shape.result c.shape-shape.ensures.shape c.shape-shape.ensures.plane side c.args.stages.now below c.in-Some-split_last.stage.now c.args.layers.now c.in-Some-split_last-2.lower_layers.now c.in-Some-split_last-2.layer.now c.new-grid.result
+    c.in-Some-split_last.ensures.cases.0 (omega (arith, c.in-Some-split_last.ensures.cases.1)) c.in-Some-split_last-2.ensures.cases.0 c.requires.layers c.new-grid.ensures.shape c.new-grid.ensures.side in
+    let tier : Tier _ = tier_on c.in-Some-split_last.stage.now c.in-Some-split_last-2.layer.now c.new-grid.result in
     let tiers : List (Tier _) = tiers_of shaped side input below in
-    let all_tiers : List (Tier _) = tiers_of shaped side input all in
+    let all_tiers : List (Tier _) = tiers_of shaped side input c.args.stages.now in
     let held : Held = g.C.Cache.held c.args.cache.now in
     let opened : Held = g.C.Cache.held c.open_wanted.new.cache in
     let under : Held = g.C.Cache.held c.make.new.cache in
-    let lower_rights : AreRight apply under 0 P all_tiers =
-    rights_lower apply held opened under P all_tiers tiers tier top.tiers c.open_wanted.ensures.held
+    let lower_rights : AreRight g.S.Stage.apply under 0 P all_tiers =
+    rights_lower g.S.Stage.apply held opened under P all_tiers tiers tier top.tiers c.open_wanted.ensures.held
     (subst (λ (n : ℕ). TakesUpTo opened under n) (sym (tiers_length shaped side input below)) c.make.ensures.above) c.requires.right c.make.ensures.right in
     lower_rights
 
 pub run_missing-requires-clause-shape : goal.run_missing-requires-clause-shape
 run_missing-requires-clause-shape g t c =
-    let takes = g.S.Stage.takes in
-    let shaped = g.S.Stage.shaped in
-    let apply = g.S.Stage.apply in
     let P : Plane = g.B.Base.plane c.args.source.now.base in
-    let input : Shape = shape_of P in
-    let all = c.args.stages.now in
-    let stage = c.in-Some-split_last.stage.now in
-    let below = c.in-Some-split_last.below.now in
-    let layer : Layer = c.in-Some-split_last-2.layer.now in
-    let lower : List Layer = c.in-Some-split_last-2.lower_layers.now in
-    let same_input : input ≡ c.shape-shape.result = shape_is P c.shape-shape.result c.shape-shape.ensures.plane in
-    let is_input : IsShape input = subst IsShape (sym same_input) c.shape-shape.ensures.shape in
-    let is_P : IsPlane P input = subst (λ (t : Shape). IsPlane P t) (sym same_input) c.shape-shape.ensures.plane in
-    let grid : Grid = c.new-grid.result in
-    let side : ℕ = c.args.side in
-    let top = on_top takes shaped apply g.met.S.Stage.makes_shapes g.met.S.Stage.makes_planes input P side all below stage c.args.layers.now lower layer grid
-    c.in-Some-split_last.ensures.cases.0 (omega (arith, c.in-Some-split_last.ensures.cases.1)) c.in-Some-split_last-2.ensures.cases.0 c.requires.layers is_input is_P c.new-grid.ensures.shape c.new-grid.ensures.side in
+    let top = on_top g.S.Stage.takes g.S.Stage.shaped g.S.Stage.apply g.met.S.Stage.makes_shapes g.met.S.Stage.makes_planes P c.shape-shape.result c.shape-shape.ensures.shape c.shape-shape.ensures.plane c.args.side c.args.stages.now c.in-Some-split_last.below.now c.in-Some-split_last.stage.now c.args.layers.now c.in-Some-split_last-2.lower_layers.now c.in-Some-split_last-2.layer.now c.new-grid.result
+    c.in-Some-split_last.ensures.cases.0 (omega (arith, c.in-Some-split_last.ensures.cases.1)) c.in-Some-split_last-2.ensures.cases.0 c.requires.layers c.new-grid.ensures.shape c.new-grid.ensures.side in
     top.input
 
 pub run_missing-requires-clause-takes : goal.run_missing-requires-clause-takes
 run_missing-requires-clause-takes g t c =
-    let takes = g.S.Stage.takes in
-    let shaped = g.S.Stage.shaped in
-    let apply = g.S.Stage.apply in
     let P : Plane = g.B.Base.plane c.args.source.now.base in
-    let input : Shape = shape_of P in
-    let all = c.args.stages.now in
-    let stage = c.in-Some-split_last.stage.now in
-    let below = c.in-Some-split_last.below.now in
-    let layer : Layer = c.in-Some-split_last-2.layer.now in
-    let lower : List Layer = c.in-Some-split_last-2.lower_layers.now in
-    let same_input : input ≡ c.shape-shape.result = shape_is P c.shape-shape.result c.shape-shape.ensures.plane in
-    let is_input : IsShape input = subst IsShape (sym same_input) c.shape-shape.ensures.shape in
-    let is_P : IsPlane P input = subst (λ (t : Shape). IsPlane P t) (sym same_input) c.shape-shape.ensures.plane in
-    let grid : Grid = c.new-grid.result in
-    let side : ℕ = c.args.side in
-    let top = on_top takes shaped apply g.met.S.Stage.makes_shapes g.met.S.Stage.makes_planes input P side all below stage c.args.layers.now lower layer grid
-    c.in-Some-split_last.ensures.cases.0 (omega (arith, c.in-Some-split_last.ensures.cases.1)) c.in-Some-split_last-2.ensures.cases.0 c.requires.layers is_input is_P c.new-grid.ensures.shape c.new-grid.ensures.side in
+    let top = on_top g.S.Stage.takes g.S.Stage.shaped g.S.Stage.apply g.met.S.Stage.makes_shapes g.met.S.Stage.makes_planes P c.shape-shape.result c.shape-shape.ensures.shape c.shape-shape.ensures.plane c.args.side c.args.stages.now c.in-Some-split_last.below.now c.in-Some-split_last.stage.now c.args.layers.now c.in-Some-split_last-2.lower_layers.now c.in-Some-split_last-2.layer.now c.new-grid.result
+    c.in-Some-split_last.ensures.cases.0 (omega (arith, c.in-Some-split_last.ensures.cases.1)) c.in-Some-split_last-2.ensures.cases.0 c.requires.layers c.new-grid.ensures.shape c.new-grid.ensures.side in
     top.taken
 
 pub run_missing-requires-clause-grid : goal.run_missing-requires-clause-grid
 run_missing-requires-clause-grid g t c =
-    let takes = g.S.Stage.takes in
-    let shaped = g.S.Stage.shaped in
-    let apply = g.S.Stage.apply in
     let P : Plane = g.B.Base.plane c.args.source.now.base in
-    let input : Shape = shape_of P in
-    let all = c.args.stages.now in
-    let stage = c.in-Some-split_last.stage.now in
-    let below = c.in-Some-split_last.below.now in
-    let layer : Layer = c.in-Some-split_last-2.layer.now in
-    let lower : List Layer = c.in-Some-split_last-2.lower_layers.now in
-    let same_input : input ≡ c.shape-shape.result = shape_is P c.shape-shape.result c.shape-shape.ensures.plane in
-    let is_input : IsShape input = subst IsShape (sym same_input) c.shape-shape.ensures.shape in
-    let is_P : IsPlane P input = subst (λ (t : Shape). IsPlane P t) (sym same_input) c.shape-shape.ensures.plane in
-    let grid : Grid = c.new-grid.result in
-    let side : ℕ = c.args.side in
-    let top = on_top takes shaped apply g.met.S.Stage.makes_shapes g.met.S.Stage.makes_planes input P side all below stage c.args.layers.now lower layer grid
-    c.in-Some-split_last.ensures.cases.0 (omega (arith, c.in-Some-split_last.ensures.cases.1)) c.in-Some-split_last-2.ensures.cases.0 c.requires.layers is_input is_P c.new-grid.ensures.shape c.new-grid.ensures.side in
+    let top = on_top g.S.Stage.takes g.S.Stage.shaped g.S.Stage.apply g.met.S.Stage.makes_shapes g.met.S.Stage.makes_planes P c.shape-shape.result c.shape-shape.ensures.shape c.shape-shape.ensures.plane c.args.side c.args.stages.now c.in-Some-split_last.below.now c.in-Some-split_last.stage.now c.args.layers.now c.in-Some-split_last-2.lower_layers.now c.in-Some-split_last-2.layer.now c.new-grid.result
+    c.in-Some-split_last.ensures.cases.0 (omega (arith, c.in-Some-split_last.ensures.cases.1)) c.in-Some-split_last-2.ensures.cases.0 c.requires.layers c.new-grid.ensures.shape c.new-grid.ensures.side in
     top.grid
 
 pub run_missing-requires-clause-numbers : goal.run_missing-requires-clause-numbers
 run_missing-requires-clause-numbers g t c =
-    let all = c.args.stages.now in
-    let grid : Grid = c.new-grid.result in
-    let cells : List Rect = grid_cells grid.shape grid.side in
-    let plane : ℕ = length all in
+    let cells : List Rect = grid_cells c.new-grid.result.shape c.new-grid.result.side in
+    let plane : ℕ = length c.args.stages.now in
     let held : Held = g.C.Cache.held c.args.cache.now in
-    let wanted : List Rect = c.args.wanted.now in
-    let numbers : List ℕ = meeting cells wanted in
+    let numbers : List ℕ = meeting cells c.args.wanted.now in
     let gone : List ℕ = missing held plane numbers in
     let rest : c.deref-2.result.now ≡ gone = c.deref-2.ensures.value ∙ c.in_ok-open_wanted.ensures.missing in
-    subst (λ (xs : List ℕ). All (λ k. k < length cells) xs) (sym rest) (missing_bounds held plane cells wanted)
+    subst (λ (xs : List ℕ). All (λ k. k < length cells) xs) (sym rest) (missing_bounds held plane cells c.args.wanted.now)
 
 pub run_missing-requires-clause-inside : goal.run_missing-requires-clause-inside
 run_missing-requires-clause-inside g t c =
-    let all = c.args.stages.now in
-    let grid : Grid = c.new-grid.result in
-    let cells : List Rect = grid_cells grid.shape grid.side in
-    let plane : ℕ = length all in
+    let cells : List Rect = grid_cells c.new-grid.result.shape c.new-grid.result.side in
+    let plane : ℕ = length c.args.stages.now in
     let held : Held = g.C.Cache.held c.args.cache.now in
-    let wanted : List Rect = c.args.wanted.now in
-    let numbers : List ℕ = meeting cells wanted in
+    let numbers : List ℕ = meeting cells c.args.wanted.now in
     let gone : List ℕ = missing held plane numbers in
     let rest : c.deref-2.result.now ≡ gone = c.deref-2.ensures.value ∙ c.in_ok-open_wanted.ensures.missing in
-    let patch : Lent = c.open_wanted.new.patch in
-    subst (λ (xs : List ℕ). All (λ k. LiesIn (cell_at cells k) patch.rect) xs) (sym rest) (missing_told (λ x. LiesIn x patch.rect) cells held plane numbers c.in_ok-open_wanted.ensures.lie)
+    subst (λ (xs : List ℕ). All (λ k. LiesIn (cell_at cells k) c.open_wanted.new.patch.rect) xs) (sym rest) (missing_told (λ x. LiesIn x c.open_wanted.new.patch.rect) cells held plane numbers c.in_ok-open_wanted.ensures.lie)
 
 pub run_missing-requires-clause-needs : goal.run_missing-requires-clause-needs
 run_missing-requires-clause-needs g t c =
-    let apply = g.S.Stage.apply in
-    let need = g.S.Stage.needed in
     let P : Plane = g.B.Base.plane c.args.source.now.base in
-    let all = c.args.stages.now in
-    let stage = c.in-Some-split_last.stage.now in
-    let below = c.in-Some-split_last.below.now in
-    let layer : Layer = c.in-Some-split_last-2.layer.now in
     let grid : Grid = c.new-grid.result in
     let cells : List Rect = grid_cells grid.shape grid.side in
-    let plane : ℕ = length all in
-    let tier : Tier _ = tier_on stage layer grid in
+    let plane : ℕ = length c.args.stages.now in
+    let tier : Tier _ = tier_on c.in-Some-split_last.stage.now c.in-Some-split_last-2.layer.now grid in
     let held : Held = g.C.Cache.held c.args.cache.now in
-    let wanted : List Rect = c.args.wanted.now in
-    let numbers : List ℕ = meeting cells wanted in
+    let numbers : List ℕ = meeting cells c.args.wanted.now in
     let gone : List ℕ = missing held plane numbers in
-    let needs : List Rect = needs_of held need plane tier wanted in
+    let needs : List Rect = needs_of held g.S.Stage.needed plane tier c.args.wanted.now in
     let lent : c.deref.result.now ≡ needs = c.deref.ensures.value ∙ c.in_ok-open_wanted.ensures.needs in
     let rest : c.deref-2.result.now ≡ gone = c.deref-2.ensures.value ∙ c.in_ok-open_wanted.ensures.missing in
-    let Q : Plane = whole_of apply below P in
-    let f : Rect → Rect = need stage layer.input in
+    let Q : Plane = whole_of g.S.Stage.apply c.in-Some-split_last.below.now P in
+    let f : Rect → Rect = g.S.Stage.needed c.in-Some-split_last.stage.now c.in-Some-split_last-2.layer.now.input in
     let lent_part : Lent = c.make.new.patch in
-    let view : c.view.result ≡ lent_part = c.view.ensures in
     let shown : All (λ k. Shows Q lent_part (f (cell_at cells k))) c.deref-2.result.now =
     subst (λ (xs : List ℕ). All (λ k. Shows Q lent_part (f (cell_at cells k))) xs) (sym rest) (unmapped (Shows Q lent_part) f cells gone (subst (λ (xs : List Rect). All (Shows Q lent_part) xs) lent c.in_ok-make.ensures.shows)) in
-    subst (λ (V : Lent). All (λ k. LiesIn (f (cell_at cells k)) V.rect) c.deref-2.result.now) (sym view)
+    subst (λ (V : Lent). All (λ k. LiesIn (f (cell_at cells k)) V.rect) c.deref-2.result.now) (sym c.view.ensures)
     (All-weaker (λ k. Shows Q lent_part (f (cell_at cells k))) (λ k. LiesIn (f (cell_at cells k)) lent_part.rect) (λ k s. s.lies) c.deref-2.result.now shown)
 
 pub run_missing-requires-clause-lower : goal.run_missing-requires-clause-lower
 run_missing-requires-clause-lower g t c =
-    let takes = g.S.Stage.takes in
-    let shaped = g.S.Stage.shaped in
-    let apply = g.S.Stage.apply in
     let P : Plane = g.B.Base.plane c.args.source.now.base in
-    let input : Shape = shape_of P in
-    let all = c.args.stages.now in
-    let stage = c.in-Some-split_last.stage.now in
-    let below = c.in-Some-split_last.below.now in
-    let layer : Layer = c.in-Some-split_last-2.layer.now in
-    let lower : List Layer = c.in-Some-split_last-2.lower_layers.now in
-    let same_input : input ≡ c.shape-shape.result = shape_is P c.shape-shape.result c.shape-shape.ensures.plane in
-    let is_input : IsShape input = subst IsShape (sym same_input) c.shape-shape.ensures.shape in
-    let is_P : IsPlane P input = subst (λ (t : Shape). IsPlane P t) (sym same_input) c.shape-shape.ensures.plane in
-    let grid : Grid = c.new-grid.result in
-    let side : ℕ = c.args.side in
-    let top = on_top takes shaped apply g.met.S.Stage.makes_shapes g.met.S.Stage.makes_planes input P side all below stage c.args.layers.now lower layer grid
-    c.in-Some-split_last.ensures.cases.0 (omega (arith, c.in-Some-split_last.ensures.cases.1)) c.in-Some-split_last-2.ensures.cases.0 c.requires.layers is_input is_P c.new-grid.ensures.shape c.new-grid.ensures.side in
+    let top = on_top g.S.Stage.takes g.S.Stage.shaped g.S.Stage.apply g.met.S.Stage.makes_shapes g.met.S.Stage.makes_planes P c.shape-shape.result c.shape-shape.ensures.shape c.shape-shape.ensures.plane c.args.side c.args.stages.now c.in-Some-split_last.below.now c.in-Some-split_last.stage.now c.args.layers.now c.in-Some-split_last-2.lower_layers.now c.in-Some-split_last-2.layer.now c.new-grid.result
+    c.in-Some-split_last.ensures.cases.0 (omega (arith, c.in-Some-split_last.ensures.cases.1)) c.in-Some-split_last-2.ensures.cases.0 c.requires.layers c.new-grid.ensures.shape c.new-grid.ensures.side in
     ap (λ (V : Lent). V.planes) c.view.ensures ∙ c.in_ok-make.ensures.planes ∙ ap (λ (t : Shape). t.planes) (sym top.low)
 
 pub run_missing-requires-clause-rising : goal.run_missing-requires-clause-rising
 run_missing-requires-clause-rising g t c =
-    let all = c.args.stages.now in
-    let grid : Grid = c.new-grid.result in
-    let cells : List Rect = grid_cells grid.shape grid.side in
-    let plane : ℕ = length all in
+    let cells : List Rect = grid_cells c.new-grid.result.shape c.new-grid.result.side in
+    let plane : ℕ = length c.args.stages.now in
     let held : Held = g.C.Cache.held c.args.cache.now in
-    let wanted : List Rect = c.args.wanted.now in
-    let numbers : List ℕ = meeting cells wanted in
+    let numbers : List ℕ = meeting cells c.args.wanted.now in
     let gone : List ℕ = missing held plane numbers in
     let rest : c.deref-2.result.now ≡ gone = c.deref-2.ensures.value ∙ c.in_ok-open_wanted.ensures.missing in
-    subst IsStrictlyIncreasing (sym rest) (missing_rises held plane cells wanted)
+    subst IsStrictlyIncreasing (sym rest) (missing_rises held plane cells c.args.wanted.now)
 
 pub run_missing-requires-clause-absent : goal.run_missing-requires-clause-absent
 run_missing-requires-clause-absent g t c =
-    let all = c.args.stages.now in
-    let below = c.in-Some-split_last.below.now in
-    let grid : Grid = c.new-grid.result in
-    let cells : List Rect = grid_cells grid.shape grid.side in
-    let plane : ℕ = length all in
+    let cells : List Rect = grid_cells c.new-grid.result.shape c.new-grid.result.side in
+    let plane : ℕ = length c.args.stages.now in
     let held : Held = g.C.Cache.held c.args.cache.now in
-    let wanted : List Rect = c.args.wanted.now in
-    let numbers : List ℕ = meeting cells wanted in
+    let numbers : List ℕ = meeting cells c.args.wanted.now in
     let gone : List ℕ = missing held plane numbers in
     let rest : c.deref-2.result.now ≡ gone = c.deref-2.ensures.value ∙ c.in_ok-open_wanted.ensures.missing in
     let under : Held = g.C.Cache.held c.make.new.cache in
-    let long : length below < plane = omega (arith, c.in-Some-split_last.ensures.cases.1) in
+    let long : length c.in-Some-split_last.below.now < plane = omega (arith, c.in-Some-split_last.ensures.cases.1) in
     subst (λ (xs : List ℕ). All (λ k. under.holds plane k ≡ false) xs) (sym rest)
     (absent_later held under plane numbers (λ k now. sym (c.open_wanted.ensures.held.holds plane k) ∙ (c.make.ensures.above.above plane k long now).0))
 
 pub returns-in_err-run_missing-clause-right : goal.returns-in_err-run_missing-clause-right
 returns-in_err-run_missing-clause-right g t c =
-    let takes = g.S.Stage.takes in
     let shaped = g.S.Stage.shaped in
     let apply = g.S.Stage.apply in
-    let need = g.S.Stage.needed in
     let P : Plane = g.B.Base.plane c.args.source.now.base in
     let input : Shape = shape_of P in
     let all = c.args.stages.now in
     let stage = c.in-Some-split_last.stage.now in
     let below = c.in-Some-split_last.below.now in
     let layer : Layer = c.in-Some-split_last-2.layer.now in
-    let lower : List Layer = c.in-Some-split_last-2.lower_layers.now in
-    let same_input : input ≡ c.shape-shape.result = shape_is P c.shape-shape.result c.shape-shape.ensures.plane in
-    let is_input : IsShape input = subst IsShape (sym same_input) c.shape-shape.ensures.shape in
-    let is_P : IsPlane P input = subst (λ (t : Shape). IsPlane P t) (sym same_input) c.shape-shape.ensures.plane in
     let grid : Grid = c.new-grid.result in
     let side : ℕ = c.args.side in
-    let top = on_top takes shaped apply g.met.S.Stage.makes_shapes g.met.S.Stage.makes_planes input P side all below stage c.args.layers.now lower layer grid
-    c.in-Some-split_last.ensures.cases.0 (omega (arith, c.in-Some-split_last.ensures.cases.1)) c.in-Some-split_last-2.ensures.cases.0 c.requires.layers is_input is_P c.new-grid.ensures.shape c.new-grid.ensures.side in
+    let top = on_top g.S.Stage.takes shaped apply g.met.S.Stage.makes_shapes g.met.S.Stage.makes_planes P c.shape-shape.result c.shape-shape.ensures.shape c.shape-shape.ensures.plane side all below stage c.args.layers.now c.in-Some-split_last-2.lower_layers.now layer grid
+    c.in-Some-split_last.ensures.cases.0 (omega (arith, c.in-Some-split_last.ensures.cases.1)) c.in-Some-split_last-2.ensures.cases.0 c.requires.layers c.new-grid.ensures.shape c.new-grid.ensures.side in
     let cells : List Rect = grid_cells grid.shape grid.side in
     let plane : ℕ = length all in
     let tier : Tier _ = tier_on stage layer grid in
     let tiers : List (Tier _) = tiers_of shaped side input below in
     let all_tiers : List (Tier _) = tiers_of shaped side input all in
     let held : Held = g.C.Cache.held c.args.cache.now in
-    let wanted : List Rect = c.args.wanted.now in
     let opened : Held = g.C.Cache.held c.open_wanted.new.cache in
-    let numbers : List ℕ = meeting cells wanted in
+    let numbers : List ℕ = meeting cells c.args.wanted.now in
     let gone : List ℕ = missing held plane numbers in
-    let needs : List Rect = needs_of held need plane tier wanted in
+    let needs : List Rect = needs_of held g.S.Stage.needed plane tier c.args.wanted.now in
     let lent : c.deref.result.now ≡ needs = c.deref.ensures.value ∙ c.in_ok-open_wanted.ensures.needs in
     let rest : c.deref-2.result.now ≡ gone = c.deref-2.ensures.value ∙ c.in_ok-open_wanted.ensures.missing in
     let under : Held = g.C.Cache.held c.make.new.cache in
     let Q : Plane = whole_of apply below P in
-    let f : Rect → Rect = need stage layer.input in
+    let f : Rect → Rect = g.S.Stage.needed stage layer.input in
     let lent_part : Lent = c.make.new.patch in
-    let view : c.view.result ≡ lent_part = c.view.ensures in
     let shown : All (λ k. Shows Q lent_part (f (cell_at cells k))) c.deref-2.result.now =
     subst (λ (xs : List ℕ). All (λ k. Shows Q lent_part (f (cell_at cells k))) xs) (sym rest) (unmapped (Shows Q lent_part) f cells gone (subst (λ (xs : List Rect). All (Shows Q lent_part) xs) lent c.in_ok-make.ensures.shows)) in
     let agrees : All (λ k. AgreesWith Q c.view.result (f (cell_at cells k))) c.deref-2.result.now =
-    subst (λ (V : Lent). All (λ k. AgreesWith Q V (f (cell_at cells k))) c.deref-2.result.now) (sym view)
+    subst (λ (V : Lent). All (λ k. AgreesWith Q V (f (cell_at cells k))) c.deref-2.result.now) (sym c.view.ensures)
     (All-weaker (λ k. Shows Q lent_part (f (cell_at cells k))) (λ k. AgreesWith Q lent_part (f (cell_at cells k))) (λ k s. s.agrees) c.deref-2.result.now shown) in
     let lower_rights : AreRight apply under 0 P all_tiers =
     rights_lower apply held opened under P all_tiers tiers tier top.tiers c.open_wanted.ensures.held
@@ -766,46 +526,38 @@ returns-in_err-run_missing-clause-right g t c =
 
 pub returns-clause-right : goal.returns-clause-right
 returns-clause-right g t c =
-    let takes = g.S.Stage.takes in
     let shaped = g.S.Stage.shaped in
     let apply = g.S.Stage.apply in
-    let need = g.S.Stage.needed in
     let P : Plane = g.B.Base.plane c.args.source.now.base in
     let input : Shape = shape_of P in
     let all = c.args.stages.now in
     let stage = c.in-Some-split_last.stage.now in
     let below = c.in-Some-split_last.below.now in
     let layer : Layer = c.in-Some-split_last-2.layer.now in
-    let lower : List Layer = c.in-Some-split_last-2.lower_layers.now in
-    let same_input : input ≡ c.shape-shape.result = shape_is P c.shape-shape.result c.shape-shape.ensures.plane in
-    let is_input : IsShape input = subst IsShape (sym same_input) c.shape-shape.ensures.shape in
-    let is_P : IsPlane P input = subst (λ (t : Shape). IsPlane P t) (sym same_input) c.shape-shape.ensures.plane in
     let grid : Grid = c.new-grid.result in
     let side : ℕ = c.args.side in
-    let top = on_top takes shaped apply g.met.S.Stage.makes_shapes g.met.S.Stage.makes_planes input P side all below stage c.args.layers.now lower layer grid
-    c.in-Some-split_last.ensures.cases.0 (omega (arith, c.in-Some-split_last.ensures.cases.1)) c.in-Some-split_last-2.ensures.cases.0 c.requires.layers is_input is_P c.new-grid.ensures.shape c.new-grid.ensures.side in
+    let top = on_top g.S.Stage.takes shaped apply g.met.S.Stage.makes_shapes g.met.S.Stage.makes_planes P c.shape-shape.result c.shape-shape.ensures.shape c.shape-shape.ensures.plane side all below stage c.args.layers.now c.in-Some-split_last-2.lower_layers.now layer grid
+    c.in-Some-split_last.ensures.cases.0 (omega (arith, c.in-Some-split_last.ensures.cases.1)) c.in-Some-split_last-2.ensures.cases.0 c.requires.layers c.new-grid.ensures.shape c.new-grid.ensures.side in
     let cells : List Rect = grid_cells grid.shape grid.side in
     let plane : ℕ = length all in
     let tier : Tier _ = tier_on stage layer grid in
     let tiers : List (Tier _) = tiers_of shaped side input below in
     let all_tiers : List (Tier _) = tiers_of shaped side input all in
     let held : Held = g.C.Cache.held c.args.cache.now in
-    let wanted : List Rect = c.args.wanted.now in
     let opened : Held = g.C.Cache.held c.open_wanted.new.cache in
-    let numbers : List ℕ = meeting cells wanted in
+    let numbers : List ℕ = meeting cells c.args.wanted.now in
     let gone : List ℕ = missing held plane numbers in
-    let needs : List Rect = needs_of held need plane tier wanted in
+    let needs : List Rect = needs_of held g.S.Stage.needed plane tier c.args.wanted.now in
     let lent : c.deref.result.now ≡ needs = c.deref.ensures.value ∙ c.in_ok-open_wanted.ensures.needs in
     let rest : c.deref-2.result.now ≡ gone = c.deref-2.ensures.value ∙ c.in_ok-open_wanted.ensures.missing in
     let under : Held = g.C.Cache.held c.make.new.cache in
     let Q : Plane = whole_of apply below P in
-    let f : Rect → Rect = need stage layer.input in
+    let f : Rect → Rect = g.S.Stage.needed stage layer.input in
     let lent_part : Lent = c.make.new.patch in
-    let view : c.view.result ≡ lent_part = c.view.ensures in
     let shown : All (λ k. Shows Q lent_part (f (cell_at cells k))) c.deref-2.result.now =
     subst (λ (xs : List ℕ). All (λ k. Shows Q lent_part (f (cell_at cells k))) xs) (sym rest) (unmapped (Shows Q lent_part) f cells gone (subst (λ (xs : List Rect). All (Shows Q lent_part) xs) lent c.in_ok-make.ensures.shows)) in
     let agrees : All (λ k. AgreesWith Q c.view.result (f (cell_at cells k))) c.deref-2.result.now =
-    subst (λ (V : Lent). All (λ k. AgreesWith Q V (f (cell_at cells k))) c.deref-2.result.now) (sym view)
+    subst (λ (V : Lent). All (λ k. AgreesWith Q V (f (cell_at cells k))) c.deref-2.result.now) (sym c.view.ensures)
     (All-weaker (λ k. Shows Q lent_part (f (cell_at cells k))) (λ k. AgreesWith Q lent_part (f (cell_at cells k))) (λ k s. s.agrees) c.deref-2.result.now shown) in
     let lower_rights : AreRight apply under 0 P all_tiers =
     rights_lower apply held opened under P all_tiers tiers tier top.tiers c.open_wanted.ensures.held
@@ -817,145 +569,95 @@ returns-clause-right g t c =
 
 pub returns-in_err-run_missing-clause-above : goal.returns-in_err-run_missing-clause-above
 returns-in_err-run_missing-clause-above g t c =
-    let all = c.args.stages.now in
-    let below = c.in-Some-split_last.below.now in
-    let plane : ℕ = length all in
+    let plane : ℕ = length c.args.stages.now in
     let held : Held = g.C.Cache.held c.args.cache.now in
     let opened : Held = g.C.Cache.held c.open_wanted.new.cache in
     let under : Held = g.C.Cache.held c.make.new.cache in
-    let long : length below ≤ plane = omega (arith, c.in-Some-split_last.ensures.cases.1) in
-    takes_run held under (g.C.Cache.held c.run_missing.new.cache) plane (takes_lower held opened under (length below) plane c.open_wanted.ensures.held c.make.ensures.above long) c.run_missing.ensures.others
+    let long : length c.in-Some-split_last.below.now ≤ plane = omega (arith, c.in-Some-split_last.ensures.cases.1) in
+    takes_run held under (g.C.Cache.held c.run_missing.new.cache) plane (takes_lower held opened under (length c.in-Some-split_last.below.now) plane c.open_wanted.ensures.held c.make.ensures.above long) c.run_missing.ensures.others
 
 pub returns-clause-above : goal.returns-clause-above
 returns-clause-above g t c =
-    let all = c.args.stages.now in
-    let below = c.in-Some-split_last.below.now in
-    let plane : ℕ = length all in
+    let plane : ℕ = length c.args.stages.now in
     let held : Held = g.C.Cache.held c.args.cache.now in
     let opened : Held = g.C.Cache.held c.open_wanted.new.cache in
     let under : Held = g.C.Cache.held c.make.new.cache in
-    let long : length below ≤ plane = omega (arith, c.in-Some-split_last.ensures.cases.1) in
-    takes_run held under (g.C.Cache.held c.run_missing.new.cache) plane (takes_lower held opened under (length below) plane c.open_wanted.ensures.held c.make.ensures.above long) c.run_missing.ensures.others
+    let long : length c.in-Some-split_last.below.now ≤ plane = omega (arith, c.in-Some-split_last.ensures.cases.1) in
+    takes_run held under (g.C.Cache.held c.run_missing.new.cache) plane (takes_lower held opened under (length c.in-Some-split_last.below.now) plane c.open_wanted.ensures.held c.make.ensures.above long) c.run_missing.ensures.others
 
 pub returns-clause-whole : goal.returns-clause-whole
 returns-clause-whole g t c =
-    let takes = g.S.Stage.takes in
-    let shaped = g.S.Stage.shaped in
-    let apply = g.S.Stage.apply in
     let P : Plane = g.B.Base.plane c.args.source.now.base in
     let input : Shape = shape_of P in
-    let all = c.args.stages.now in
-    let stage = c.in-Some-split_last.stage.now in
-    let below = c.in-Some-split_last.below.now in
-    let layer : Layer = c.in-Some-split_last-2.layer.now in
-    let lower : List Layer = c.in-Some-split_last-2.lower_layers.now in
-    let same_input : input ≡ c.shape-shape.result = shape_is P c.shape-shape.result c.shape-shape.ensures.plane in
-    let is_input : IsShape input = subst IsShape (sym same_input) c.shape-shape.ensures.shape in
-    let is_P : IsPlane P input = subst (λ (t : Shape). IsPlane P t) (sym same_input) c.shape-shape.ensures.plane in
-    let grid : Grid = c.new-grid.result in
-    let side : ℕ = c.args.side in
-    let top = on_top takes shaped apply g.met.S.Stage.makes_shapes g.met.S.Stage.makes_planes input P side all below stage c.args.layers.now lower layer grid
-    c.in-Some-split_last.ensures.cases.0 (omega (arith, c.in-Some-split_last.ensures.cases.1)) c.in-Some-split_last-2.ensures.cases.0 c.requires.layers is_input is_P c.new-grid.ensures.shape c.new-grid.ensures.side in
-    subst (λ (X : Plane). IsPlane X (last_shape shaped input all)) (sym top.whole) (subst (λ (t : Shape). IsPlane (apply stage (whole_of apply below P)) t) (sym top.last) top.own)
+    let top = on_top g.S.Stage.takes g.S.Stage.shaped g.S.Stage.apply g.met.S.Stage.makes_shapes g.met.S.Stage.makes_planes P c.shape-shape.result c.shape-shape.ensures.shape c.shape-shape.ensures.plane c.args.side c.args.stages.now c.in-Some-split_last.below.now c.in-Some-split_last.stage.now c.args.layers.now c.in-Some-split_last-2.lower_layers.now c.in-Some-split_last-2.layer.now c.new-grid.result
+    c.in-Some-split_last.ensures.cases.0 (omega (arith, c.in-Some-split_last.ensures.cases.1)) c.in-Some-split_last-2.ensures.cases.0 c.requires.layers c.new-grid.ensures.shape c.new-grid.ensures.side in
+    subst (λ (X : Plane). IsPlane X (last_shape g.S.Stage.shaped input c.args.stages.now)) (sym top.whole) (subst (λ (t : Shape). IsPlane (g.S.Stage.apply c.in-Some-split_last.stage.now (whole_of g.S.Stage.apply c.in-Some-split_last.below.now P)) t) (sym top.last) top.own)
 
 pub returns-clause-planes : goal.returns-clause-planes
 returns-clause-planes g t c =
-    let takes = g.S.Stage.takes in
-    let shaped = g.S.Stage.shaped in
-    let apply = g.S.Stage.apply in
     let P : Plane = g.B.Base.plane c.args.source.now.base in
-    let input : Shape = shape_of P in
-    let all = c.args.stages.now in
-    let stage = c.in-Some-split_last.stage.now in
-    let below = c.in-Some-split_last.below.now in
-    let layer : Layer = c.in-Some-split_last-2.layer.now in
-    let lower : List Layer = c.in-Some-split_last-2.lower_layers.now in
-    let same_input : input ≡ c.shape-shape.result = shape_is P c.shape-shape.result c.shape-shape.ensures.plane in
-    let is_input : IsShape input = subst IsShape (sym same_input) c.shape-shape.ensures.shape in
-    let is_P : IsPlane P input = subst (λ (t : Shape). IsPlane P t) (sym same_input) c.shape-shape.ensures.plane in
-    let grid : Grid = c.new-grid.result in
-    let side : ℕ = c.args.side in
-    let top = on_top takes shaped apply g.met.S.Stage.makes_shapes g.met.S.Stage.makes_planes input P side all below stage c.args.layers.now lower layer grid
-    c.in-Some-split_last.ensures.cases.0 (omega (arith, c.in-Some-split_last.ensures.cases.1)) c.in-Some-split_last-2.ensures.cases.0 c.requires.layers is_input is_P c.new-grid.ensures.shape c.new-grid.ensures.side in
+    let top = on_top g.S.Stage.takes g.S.Stage.shaped g.S.Stage.apply g.met.S.Stage.makes_shapes g.met.S.Stage.makes_planes P c.shape-shape.result c.shape-shape.ensures.shape c.shape-shape.ensures.plane c.args.side c.args.stages.now c.in-Some-split_last.below.now c.in-Some-split_last.stage.now c.args.layers.now c.in-Some-split_last-2.lower_layers.now c.in-Some-split_last-2.layer.now c.new-grid.result
+    c.in-Some-split_last.ensures.cases.0 (omega (arith, c.in-Some-split_last.ensures.cases.1)) c.in-Some-split_last-2.ensures.cases.0 c.requires.layers c.new-grid.ensures.shape c.new-grid.ensures.side in
     c.run_missing.ensures.planes ∙ c.in_ok-open_wanted.ensures.planes ∙ ap (λ (t : Shape). t.planes) (sym top.last)
 
 pub returns-clause-shows : goal.returns-clause-shows
 returns-clause-shows g t c =
-    let takes = g.S.Stage.takes in
-    let shaped = g.S.Stage.shaped in
     let apply = g.S.Stage.apply in
-    let need = g.S.Stage.needed in
     let P : Plane = g.B.Base.plane c.args.source.now.base in
     let input : Shape = shape_of P in
     let all = c.args.stages.now in
     let stage = c.in-Some-split_last.stage.now in
     let below = c.in-Some-split_last.below.now in
     let layer : Layer = c.in-Some-split_last-2.layer.now in
-    let lower : List Layer = c.in-Some-split_last-2.lower_layers.now in
-    let same_input : input ≡ c.shape-shape.result = shape_is P c.shape-shape.result c.shape-shape.ensures.plane in
-    let is_input : IsShape input = subst IsShape (sym same_input) c.shape-shape.ensures.shape in
-    let is_P : IsPlane P input = subst (λ (t : Shape). IsPlane P t) (sym same_input) c.shape-shape.ensures.plane in
     let grid : Grid = c.new-grid.result in
-    let side : ℕ = c.args.side in
-    let top = on_top takes shaped apply g.met.S.Stage.makes_shapes g.met.S.Stage.makes_planes input P side all below stage c.args.layers.now lower layer grid
-    c.in-Some-split_last.ensures.cases.0 (omega (arith, c.in-Some-split_last.ensures.cases.1)) c.in-Some-split_last-2.ensures.cases.0 c.requires.layers is_input is_P c.new-grid.ensures.shape c.new-grid.ensures.side in
+    let top = on_top g.S.Stage.takes g.S.Stage.shaped apply g.met.S.Stage.makes_shapes g.met.S.Stage.makes_planes P c.shape-shape.result c.shape-shape.ensures.shape c.shape-shape.ensures.plane c.args.side all below stage c.args.layers.now c.in-Some-split_last-2.lower_layers.now layer grid
+    c.in-Some-split_last.ensures.cases.0 (omega (arith, c.in-Some-split_last.ensures.cases.1)) c.in-Some-split_last-2.ensures.cases.0 c.requires.layers c.new-grid.ensures.shape c.new-grid.ensures.side in
     let cells : List Rect = grid_cells grid.shape grid.side in
     let plane : ℕ = length all in
     let tier : Tier _ = tier_on stage layer grid in
     let held : Held = g.C.Cache.held c.args.cache.now in
     let wanted : List Rect = c.args.wanted.now in
-    let kept = held_on_top takes shaped apply held input P side all below stage lower layer grid top c.requires.right in
+    let kept = held_on_top g.S.Stage.takes g.S.Stage.shaped apply held input P c.args.side all below stage c.in-Some-split_last-2.lower_layers.now layer grid top c.requires.right in
     let numbers : List ℕ = meeting cells wanted in
     let gone : List ℕ = missing held plane numbers in
-    let needs : List Rect = needs_of held need plane tier wanted in
+    let needs : List Rect = needs_of held g.S.Stage.needed plane tier wanted in
     let lent : c.deref.result.now ≡ needs = c.deref.ensures.value ∙ c.in_ok-open_wanted.ensures.needs in
     let rest : c.deref-2.result.now ≡ gone = c.deref-2.ensures.value ∙ c.in_ok-open_wanted.ensures.missing in
     let Q : Plane = whole_of apply below P in
     let R : Plane = apply stage Q in
-    let f : Rect → Rect = need stage layer.input in
+    let f : Rect → Rect = g.S.Stage.needed stage layer.input in
     let lent_part : Lent = c.make.new.patch in
-    let view : c.view.result ≡ lent_part = c.view.ensures in
     let shown : All (λ k. Shows Q lent_part (f (cell_at cells k))) c.deref-2.result.now =
     subst (λ (xs : List ℕ). All (λ k. Shows Q lent_part (f (cell_at cells k))) xs) (sym rest) (unmapped (Shows Q lent_part) f cells gone (subst (λ (xs : List Rect). All (Shows Q lent_part) xs) lent c.in_ok-make.ensures.shows)) in
     let agrees : All (λ k. AgreesWith Q c.view.result (f (cell_at cells k))) c.deref-2.result.now =
-    subst (λ (V : Lent). All (λ k. AgreesWith Q V (f (cell_at cells k))) c.deref-2.result.now) (sym view)
+    subst (λ (V : Lent). All (λ k. AgreesWith Q V (f (cell_at cells k))) c.deref-2.result.now) (sym c.view.ensures)
     (All-weaker (λ k. Shows Q lent_part (f (cell_at cells k))) (λ k. AgreesWith Q lent_part (f (cell_at cells k))) (λ k s. s.agrees) c.deref-2.result.now shown) in
     let parts : All (λ (rect : Rect). IsPart rect grid.shape) wanted = subst (λ (t : Shape). All (λ (rect : Rect). IsPart rect t) wanted) top.last c.requires.wanted in
     let up = grid_makes_up grid.shape grid.side (omega (arith, grid.least)) in
     let patch : Lent = c.run_missing.new.patch in
-    let had : HasCells R c.open_wanted.new.patch cells (fresh held plane numbers) = c.in_ok-open_wanted.ensures.cells R top.own.shape.planes kept.right in
-    let filled : HasCells R patch cells (fresh held plane numbers ++ gone) =
-    subst (λ (xs : List ℕ). HasCells R patch cells (fresh held plane numbers ++ xs)) rest (c.in_ok-run_missing.ensures.copied Q (fresh held plane numbers) top.lower agrees had) in
+    let had : HasCells R c.open_wanted.new.patch wanted cells (fresh held plane numbers) = c.in_ok-open_wanted.ensures.cells R top.own.shape.planes kept.right in
+    let filled : HasCells R patch wanted cells (fresh held plane numbers ++ gone) =
+    subst (λ (xs : List ℕ). HasCells R patch wanted cells (fresh held plane numbers ++ xs)) rest (c.in_ok-run_missing.ensures.copied Q wanted (fresh held plane numbers) top.lower agrees had) in
     let lie : All (λ (rect : Rect). LiesIn rect patch.rect) (cells_at cells numbers) =
     subst (λ (x : Rect). All (λ (rect : Rect). LiesIn rect x) (cells_at cells numbers)) (sym c.run_missing.ensures.rect) c.in_ok-open_wanted.ensures.lie in
     subst (λ (X : Plane). All (Shows X patch) wanted) (sym top.whole)
-    (shows_wanted R patch grid.shape cells wanted up parts lie (filled_from R patch cells held plane numbers filled))
+    (shows_wanted R patch grid.shape cells wanted up parts lie (filled_from R patch wanted cells held plane numbers filled))
 
 pub returns-clause-work : goal.returns-clause-work
 returns-clause-work g t c =
-    let takes = g.S.Stage.takes in
-    let shaped = g.S.Stage.shaped in
-    let apply = g.S.Stage.apply in
     let need = g.S.Stage.needed in
     let P : Plane = g.B.Base.plane c.args.source.now.base in
     let input : Shape = shape_of P in
     let all = c.args.stages.now in
-    let stage = c.in-Some-split_last.stage.now in
-    let below = c.in-Some-split_last.below.now in
-    let layer : Layer = c.in-Some-split_last-2.layer.now in
-    let lower : List Layer = c.in-Some-split_last-2.lower_layers.now in
-    let same_input : input ≡ c.shape-shape.result = shape_is P c.shape-shape.result c.shape-shape.ensures.plane in
-    let is_input : IsShape input = subst IsShape (sym same_input) c.shape-shape.ensures.shape in
-    let is_P : IsPlane P input = subst (λ (t : Shape). IsPlane P t) (sym same_input) c.shape-shape.ensures.plane in
     let grid : Grid = c.new-grid.result in
     let side : ℕ = c.args.side in
-    let top = on_top takes shaped apply g.met.S.Stage.makes_shapes g.met.S.Stage.makes_planes input P side all below stage c.args.layers.now lower layer grid
-    c.in-Some-split_last.ensures.cases.0 (omega (arith, c.in-Some-split_last.ensures.cases.1)) c.in-Some-split_last-2.ensures.cases.0 c.requires.layers is_input is_P c.new-grid.ensures.shape c.new-grid.ensures.side in
+    let top = on_top g.S.Stage.takes g.S.Stage.shaped g.S.Stage.apply g.met.S.Stage.makes_shapes g.met.S.Stage.makes_planes P c.shape-shape.result c.shape-shape.ensures.shape c.shape-shape.ensures.plane side all c.in-Some-split_last.below.now c.in-Some-split_last.stage.now c.args.layers.now c.in-Some-split_last-2.lower_layers.now c.in-Some-split_last-2.layer.now grid
+    c.in-Some-split_last.ensures.cases.0 (omega (arith, c.in-Some-split_last.ensures.cases.1)) c.in-Some-split_last-2.ensures.cases.0 c.requires.layers c.new-grid.ensures.shape c.new-grid.ensures.side in
     let cells : List Rect = grid_cells grid.shape grid.side in
     let plane : ℕ = length all in
-    let tier : Tier _ = tier_on stage layer grid in
-    let tiers : List (Tier _) = tiers_of shaped side input below in
-    let all_tiers : List (Tier _) = tiers_of shaped side input all in
+    let tier : Tier _ = tier_on c.in-Some-split_last.stage.now c.in-Some-split_last-2.layer.now grid in
+    let tiers : List (Tier _) = tiers_of g.S.Stage.shaped side input c.in-Some-split_last.below.now in
+    let all_tiers : List (Tier _) = tiers_of g.S.Stage.shaped side input all in
     let held : Held = g.C.Cache.held c.args.cache.now in
     let wanted : List Rect = c.args.wanted.now in
     let opened : Held = g.C.Cache.held c.open_wanted.new.cache in
@@ -974,28 +676,17 @@ returns-clause-work g t c =
 
 pub returns-clause-count : goal.returns-clause-count
 returns-clause-count g t c =
-    let takes = g.S.Stage.takes in
-    let shaped = g.S.Stage.shaped in
-    let apply = g.S.Stage.apply in
     let need = g.S.Stage.needed in
     let P : Plane = g.B.Base.plane c.args.source.now.base in
     let input : Shape = shape_of P in
     let all = c.args.stages.now in
-    let stage = c.in-Some-split_last.stage.now in
-    let below = c.in-Some-split_last.below.now in
-    let layer : Layer = c.in-Some-split_last-2.layer.now in
-    let lower : List Layer = c.in-Some-split_last-2.lower_layers.now in
-    let same_input : input ≡ c.shape-shape.result = shape_is P c.shape-shape.result c.shape-shape.ensures.plane in
-    let is_input : IsShape input = subst IsShape (sym same_input) c.shape-shape.ensures.shape in
-    let is_P : IsPlane P input = subst (λ (t : Shape). IsPlane P t) (sym same_input) c.shape-shape.ensures.plane in
-    let grid : Grid = c.new-grid.result in
     let side : ℕ = c.args.side in
-    let top = on_top takes shaped apply g.met.S.Stage.makes_shapes g.met.S.Stage.makes_planes input P side all below stage c.args.layers.now lower layer grid
-    c.in-Some-split_last.ensures.cases.0 (omega (arith, c.in-Some-split_last.ensures.cases.1)) c.in-Some-split_last-2.ensures.cases.0 c.requires.layers is_input is_P c.new-grid.ensures.shape c.new-grid.ensures.side in
+    let top = on_top g.S.Stage.takes g.S.Stage.shaped g.S.Stage.apply g.met.S.Stage.makes_shapes g.met.S.Stage.makes_planes P c.shape-shape.result c.shape-shape.ensures.shape c.shape-shape.ensures.plane side all c.in-Some-split_last.below.now c.in-Some-split_last.stage.now c.args.layers.now c.in-Some-split_last-2.lower_layers.now c.in-Some-split_last-2.layer.now c.new-grid.result
+    c.in-Some-split_last.ensures.cases.0 (omega (arith, c.in-Some-split_last.ensures.cases.1)) c.in-Some-split_last-2.ensures.cases.0 c.requires.layers c.new-grid.ensures.shape c.new-grid.ensures.side in
     let plane : ℕ = length all in
-    let tier : Tier _ = tier_on stage layer grid in
-    let tiers : List (Tier _) = tiers_of shaped side input below in
-    let all_tiers : List (Tier _) = tiers_of shaped side input all in
+    let tier : Tier _ = tier_on c.in-Some-split_last.stage.now c.in-Some-split_last-2.layer.now c.new-grid.result in
+    let tiers : List (Tier _) = tiers_of g.S.Stage.shaped side input c.in-Some-split_last.below.now in
+    let all_tiers : List (Tier _) = tiers_of g.S.Stage.shaped side input all in
     let held : Held = g.C.Cache.held c.args.cache.now in
     let wanted : List Rect = c.args.wanted.now in
     let opened : Held = g.C.Cache.held c.open_wanted.new.cache in
@@ -1008,28 +699,17 @@ returns-clause-count g t c =
 
 pub returns-clause-fetched : goal.returns-clause-fetched
 returns-clause-fetched g t c =
-    let takes = g.S.Stage.takes in
-    let shaped = g.S.Stage.shaped in
-    let apply = g.S.Stage.apply in
     let need = g.S.Stage.needed in
     let P : Plane = g.B.Base.plane c.args.source.now.base in
     let input : Shape = shape_of P in
     let all = c.args.stages.now in
-    let stage = c.in-Some-split_last.stage.now in
-    let below = c.in-Some-split_last.below.now in
-    let layer : Layer = c.in-Some-split_last-2.layer.now in
-    let lower : List Layer = c.in-Some-split_last-2.lower_layers.now in
-    let same_input : input ≡ c.shape-shape.result = shape_is P c.shape-shape.result c.shape-shape.ensures.plane in
-    let is_input : IsShape input = subst IsShape (sym same_input) c.shape-shape.ensures.shape in
-    let is_P : IsPlane P input = subst (λ (t : Shape). IsPlane P t) (sym same_input) c.shape-shape.ensures.plane in
-    let grid : Grid = c.new-grid.result in
     let side : ℕ = c.args.side in
-    let top = on_top takes shaped apply g.met.S.Stage.makes_shapes g.met.S.Stage.makes_planes input P side all below stage c.args.layers.now lower layer grid
-    c.in-Some-split_last.ensures.cases.0 (omega (arith, c.in-Some-split_last.ensures.cases.1)) c.in-Some-split_last-2.ensures.cases.0 c.requires.layers is_input is_P c.new-grid.ensures.shape c.new-grid.ensures.side in
+    let top = on_top g.S.Stage.takes g.S.Stage.shaped g.S.Stage.apply g.met.S.Stage.makes_shapes g.met.S.Stage.makes_planes P c.shape-shape.result c.shape-shape.ensures.shape c.shape-shape.ensures.plane side all c.in-Some-split_last.below.now c.in-Some-split_last.stage.now c.args.layers.now c.in-Some-split_last-2.lower_layers.now c.in-Some-split_last-2.layer.now c.new-grid.result
+    c.in-Some-split_last.ensures.cases.0 (omega (arith, c.in-Some-split_last.ensures.cases.1)) c.in-Some-split_last-2.ensures.cases.0 c.requires.layers c.new-grid.ensures.shape c.new-grid.ensures.side in
     let plane : ℕ = length all in
-    let tier : Tier _ = tier_on stage layer grid in
-    let tiers : List (Tier _) = tiers_of shaped side input below in
-    let all_tiers : List (Tier _) = tiers_of shaped side input all in
+    let tier : Tier _ = tier_on c.in-Some-split_last.stage.now c.in-Some-split_last-2.layer.now c.new-grid.result in
+    let tiers : List (Tier _) = tiers_of g.S.Stage.shaped side input c.in-Some-split_last.below.now in
+    let all_tiers : List (Tier _) = tiers_of g.S.Stage.shaped side input all in
     let held : Held = g.C.Cache.held c.args.cache.now in
     let wanted : List Rect = c.args.wanted.now in
     let opened : Held = g.C.Cache.held c.open_wanted.new.cache in
@@ -1042,29 +722,19 @@ returns-clause-fetched g t c =
 
 pub returns-clause-ran : goal.returns-clause-ran
 returns-clause-ran g t c =
-    let takes = g.S.Stage.takes in
-    let shaped = g.S.Stage.shaped in
-    let apply = g.S.Stage.apply in
     let need = g.S.Stage.needed in
     let P : Plane = g.B.Base.plane c.args.source.now.base in
     let input : Shape = shape_of P in
     let all = c.args.stages.now in
-    let stage = c.in-Some-split_last.stage.now in
-    let below = c.in-Some-split_last.below.now in
-    let layer : Layer = c.in-Some-split_last-2.layer.now in
-    let lower : List Layer = c.in-Some-split_last-2.lower_layers.now in
-    let same_input : input ≡ c.shape-shape.result = shape_is P c.shape-shape.result c.shape-shape.ensures.plane in
-    let is_input : IsShape input = subst IsShape (sym same_input) c.shape-shape.ensures.shape in
-    let is_P : IsPlane P input = subst (λ (t : Shape). IsPlane P t) (sym same_input) c.shape-shape.ensures.plane in
     let grid : Grid = c.new-grid.result in
     let side : ℕ = c.args.side in
-    let top = on_top takes shaped apply g.met.S.Stage.makes_shapes g.met.S.Stage.makes_planes input P side all below stage c.args.layers.now lower layer grid
-    c.in-Some-split_last.ensures.cases.0 (omega (arith, c.in-Some-split_last.ensures.cases.1)) c.in-Some-split_last-2.ensures.cases.0 c.requires.layers is_input is_P c.new-grid.ensures.shape c.new-grid.ensures.side in
+    let top = on_top g.S.Stage.takes g.S.Stage.shaped g.S.Stage.apply g.met.S.Stage.makes_shapes g.met.S.Stage.makes_planes P c.shape-shape.result c.shape-shape.ensures.shape c.shape-shape.ensures.plane side all c.in-Some-split_last.below.now c.in-Some-split_last.stage.now c.args.layers.now c.in-Some-split_last-2.lower_layers.now c.in-Some-split_last-2.layer.now grid
+    c.in-Some-split_last.ensures.cases.0 (omega (arith, c.in-Some-split_last.ensures.cases.1)) c.in-Some-split_last-2.ensures.cases.0 c.requires.layers c.new-grid.ensures.shape c.new-grid.ensures.side in
     let cells : List Rect = grid_cells grid.shape grid.side in
     let plane : ℕ = length all in
-    let tier : Tier _ = tier_on stage layer grid in
-    let tiers : List (Tier _) = tiers_of shaped side input below in
-    let all_tiers : List (Tier _) = tiers_of shaped side input all in
+    let tier : Tier _ = tier_on c.in-Some-split_last.stage.now c.in-Some-split_last-2.layer.now grid in
+    let tiers : List (Tier _) = tiers_of g.S.Stage.shaped side input c.in-Some-split_last.below.now in
+    let all_tiers : List (Tier _) = tiers_of g.S.Stage.shaped side input all in
     let held : Held = g.C.Cache.held c.args.cache.now in
     let wanted : List Rect = c.args.wanted.now in
     let opened : Held = g.C.Cache.held c.open_wanted.new.cache in
@@ -1080,29 +750,19 @@ returns-clause-ran g t c =
 
 pub returns-clause-kept : goal.returns-clause-kept
 returns-clause-kept g t c =
-    let takes = g.S.Stage.takes in
-    let shaped = g.S.Stage.shaped in
-    let apply = g.S.Stage.apply in
     let need = g.S.Stage.needed in
     let P : Plane = g.B.Base.plane c.args.source.now.base in
     let input : Shape = shape_of P in
     let all = c.args.stages.now in
-    let stage = c.in-Some-split_last.stage.now in
-    let below = c.in-Some-split_last.below.now in
-    let layer : Layer = c.in-Some-split_last-2.layer.now in
-    let lower : List Layer = c.in-Some-split_last-2.lower_layers.now in
-    let same_input : input ≡ c.shape-shape.result = shape_is P c.shape-shape.result c.shape-shape.ensures.plane in
-    let is_input : IsShape input = subst IsShape (sym same_input) c.shape-shape.ensures.shape in
-    let is_P : IsPlane P input = subst (λ (t : Shape). IsPlane P t) (sym same_input) c.shape-shape.ensures.plane in
     let grid : Grid = c.new-grid.result in
     let side : ℕ = c.args.side in
-    let top = on_top takes shaped apply g.met.S.Stage.makes_shapes g.met.S.Stage.makes_planes input P side all below stage c.args.layers.now lower layer grid
-    c.in-Some-split_last.ensures.cases.0 (omega (arith, c.in-Some-split_last.ensures.cases.1)) c.in-Some-split_last-2.ensures.cases.0 c.requires.layers is_input is_P c.new-grid.ensures.shape c.new-grid.ensures.side in
+    let top = on_top g.S.Stage.takes g.S.Stage.shaped g.S.Stage.apply g.met.S.Stage.makes_shapes g.met.S.Stage.makes_planes P c.shape-shape.result c.shape-shape.ensures.shape c.shape-shape.ensures.plane side all c.in-Some-split_last.below.now c.in-Some-split_last.stage.now c.args.layers.now c.in-Some-split_last-2.lower_layers.now c.in-Some-split_last-2.layer.now grid
+    c.in-Some-split_last.ensures.cases.0 (omega (arith, c.in-Some-split_last.ensures.cases.1)) c.in-Some-split_last-2.ensures.cases.0 c.requires.layers c.new-grid.ensures.shape c.new-grid.ensures.side in
     let cells : List Rect = grid_cells grid.shape grid.side in
     let plane : ℕ = length all in
-    let tier : Tier _ = tier_on stage layer grid in
-    let tiers : List (Tier _) = tiers_of shaped side input below in
-    let all_tiers : List (Tier _) = tiers_of shaped side input all in
+    let tier : Tier _ = tier_on c.in-Some-split_last.stage.now c.in-Some-split_last-2.layer.now grid in
+    let tiers : List (Tier _) = tiers_of g.S.Stage.shaped side input c.in-Some-split_last.below.now in
+    let all_tiers : List (Tier _) = tiers_of g.S.Stage.shaped side input all in
     let held : Held = g.C.Cache.held c.args.cache.now in
     let wanted : List Rect = c.args.wanted.now in
     let opened : Held = g.C.Cache.held c.open_wanted.new.cache in

@@ -10,10 +10,10 @@ use Rattle.stage_core.specs.Bases.{raised}
 use Rattle.stage_core.specs.Planes.{IsPart}
 use Rattle.stage_core.specs.Stages.{shape_of}
 use Rattle.stage_deps.specs.Cells.{cell_at, no_rect}
-use Rattle.kept_cells.specs.Held.{HasCells}
 use Rattle.kept_cells.specs.Kept.{size_of}
 use Rattle.kept_cells.proofs.Keeping.{absent_step, put_step}
 use Rattle.kept_cells.proofs.Lower.{put_others, put_right}
+use Rattle.region_session.specs.Parts.{HasCells}
 use Rattle.region_session.proofs.Counting.{raised_more, raised_none}
 use Rattle.region_session.proofs.Copying.{cells_next, part_is}
 use Rattle.region_session.proofs.Sizes.{small_part}
@@ -25,7 +25,7 @@ loop-k-init g c =
       rect = refl;
       planes = refl;
       marks = refl;
-      copied = λ done had. subst (λ (xs : List ℕ). HasCells (g.B.Base.plane c.args.base.now) c.args.patch.now (g.B.Base.cells_of c.args.base.now) xs) (sym (append-nil done)) had;
+      copied = λ wanted done had. subst (λ (xs : List ℕ). HasCells (g.B.Base.plane c.args.base.now) c.args.patch.now wanted (g.B.Base.cells_of c.args.base.now) xs) (sym (append-nil done)) had;
       right = λ right. right;
       others = record { others = λ p k other now. (now, refl) };
       kept = refl;
@@ -37,8 +37,8 @@ loop-k-init g c =
     }
 
 pub returns-clause-copied : goal.returns-clause-copied
-returns-clause-copied g c = λ done had.
-    subst (λ (xs : List ℕ). HasCells (g.B.Base.plane c.args.base.now) c.loop-k.patch (g.B.Base.cells_of c.args.base.now) (done ++ xs)) (take_all c.loop-k.k-index c.args.numbers.now (omega arith)) (c.loop-k.invariant.copied done had)
+returns-clause-copied g c = λ wanted done had.
+    subst (λ (xs : List ℕ). HasCells (g.B.Base.plane c.args.base.now) c.loop-k.patch wanted (g.B.Base.cells_of c.args.base.now) (done ++ xs)) (take_all c.loop-k.k-index c.args.numbers.now (omega arith)) (c.loop-k.invariant.copied wanted done had)
 
 pub put-requires-clause-small : goal.put-requires-clause-small
 put-requires-clause-small g c =
@@ -91,7 +91,7 @@ loop-k-preserved g c =
       rect = told.rect ∙ was.rect;
       planes = told.planes ∙ was.planes;
       marks = c.put.ensures.marks ∙ was.marks;
-      copied = λ done had. cells_next P c.loop-k.patch c.fetch.new.self cells done numbers i cell within is (was.copied done had) copies told.rect told.planes;
+      copied = λ wanted done had. cells_next P c.loop-k.patch c.fetch.new.self wanted cells done numbers i cell within is (was.copied wanted done had) copies told.rect told.planes;
       right = λ right.
           let xs : (part_of c.view.result cell).samples ≡ (crop P (cell_at cells n)).samples =
           ap (λ (L : Lent). (part_of L cell).samples) c.view.ensures ∙ part_is P c.loop-k.patch c.fetch.new.self cell copies inside of told.planes ∙ ap (λ (x : Rect). (crop P x).samples) is in

@@ -11,9 +11,10 @@ use Rattle.stage_core.specs.Planes.{IsPart}
 use Rattle.stage_core.proofs.Formulas.{shape_is}
 use Rattle.stage_deps.specs.Cells.{MakeUp, cell_at, cells_at, meeting}
 use Rattle.stage_deps.proofs.Coverage.{meeting_bounds}
-use Rattle.kept_cells.specs.Held.{HasCells, Held, fresh, missing}
+use Rattle.kept_cells.specs.Held.{Held, fresh, missing}
 use Rattle.kept_cells.proofs.Keeping.{absent_later, missing_rises}
 use Rattle.kept_cells.proofs.Lower.{missing_bounds, sizes_from}
+use Rattle.region_session.specs.Parts.{HasCells, HasWanted}
 use Rattle.region_session.proofs.Copying.{filled_from, missing_told, sizes_of}
 use Rattle.region_session.proofs.Covering.{needed_are_parts, shows_wanted}
 use Rattle.region_session.proofs.Sizes.{small_part}
@@ -45,8 +46,8 @@ reset-requires g c =
     let wanted : List Rect = c.args.wanted.now in
     let numbers = numbers_are cells c.args.source.now.cells.items c.deref.result.now wanted c.meeting_cells.new.numbers.items c.deref-3.result.now c.requires.cells c.deref.ensures.value c.in_ok-meeting_cells.ensures c.deref-3.ensures.value in
     let rects : c.deref-4.result.now ≡ cells_at cells (meeting cells wanted) = rects_are cells c.args.source.now.cells.items c.deref-2.result.now c.rects_of.new.rects.items c.deref-4.result.now c.deref-3.result.now c.requires.cells c.deref-2.ensures.value c.in_ok-rects_of.ensures c.deref-4.ensures.value ∙ ap (cells_at cells) numbers in
-    small_part c.hull.result shape c.shape-shape.ensures.shape
-    (c.hull.ensures.part shape (subst (λ (xs : List Rect). All (λ (rect : Rect). IsPart rect shape) xs) (sym rects) (needed_are_parts shape cells wanted (made_up cells shape c.shape-shape.ensures.cells))))
+    small_part c.hull-around.result shape c.shape-shape.ensures.shape
+    (c.hull-around.ensures.part shape (subst (λ (xs : List Rect). All (λ (rect : Rect). IsPart rect shape) xs) (sym rects) (needed_are_parts shape cells wanted (made_up cells shape c.shape-shape.ensures.cells))))
 
 pub copy_fresh-requires-clause-sizes : goal.copy_fresh-requires-clause-sizes
 copy_fresh-requires-clause-sizes g c =
@@ -85,9 +86,9 @@ fetch_missing-requires-clause-inside g c =
     let rects : c.deref-4.result.now ≡ cells_at cells (meeting cells wanted) = rects_are cells c.args.source.now.cells.items c.deref-2.result.now c.rects_of.new.rects.items c.deref-4.result.now c.deref-3.result.now c.requires.cells c.deref-2.ensures.value c.in_ok-rects_of.ensures c.deref-4.ensures.value ∙ ap (cells_at cells) (again ∙ numbers) in
     let gone : c.deref-8.result.now ≡ missing held 0 (meeting cells wanted) = c.deref-8.ensures.value ∙ c.in_ok-copy_fresh.ensures.missing ∙ ap (missing held 0) numbers in
     let whole : Rect = c.copy_fresh.new.patch.rect in
-    let is : c.hull.result ≡ whole = sym (c.copy_fresh.ensures.rect ∙ c.in_ok-reset.ensures.rect) in
+    let is : c.hull-around.result ≡ whole = sym (c.copy_fresh.ensures.rect ∙ c.in_ok-reset.ensures.rect) in
     let lie : All (λ (rect : Rect). LiesIn rect whole) (cells_at cells (meeting cells wanted)) =
-    subst (λ (x : Rect). All (λ (rect : Rect). LiesIn rect x) (cells_at cells (meeting cells wanted))) is (subst (λ (xs : List Rect). All (λ (rect : Rect). LiesIn rect c.hull.result) xs) rects c.hull.ensures.all) in
+    subst (λ (x : Rect). All (λ (rect : Rect). LiesIn rect x) (cells_at cells (meeting cells wanted))) is (subst (λ (xs : List Rect). All (λ (rect : Rect). LiesIn rect c.hull-around.result) xs) rects c.hull-around.ensures.all) in
     subst (λ (xs : List ℕ). All (λ k. LiesIn (cell_at cells k) whole) xs) (sym gone) (missing_told (λ x. LiesIn x whole) cells held 0 (meeting cells wanted) lie)
 
 pub fetch_missing-requires-clause-rising : goal.fetch_missing-requires-clause-rising
@@ -123,14 +124,15 @@ returns-clause-shows g c =
     let rects : c.deref-4.result.now ≡ cells_at cells (meeting cells wanted) = rects_are cells c.args.source.now.cells.items c.deref-2.result.now c.rects_of.new.rects.items c.deref-4.result.now c.deref-3.result.now c.requires.cells c.deref-2.ensures.value c.in_ok-rects_of.ensures c.deref-4.ensures.value ∙ ap (cells_at cells) (again ∙ numbers) in
     let gone : c.deref-8.result.now ≡ missing held 0 (meeting cells wanted) = c.deref-8.ensures.value ∙ c.in_ok-copy_fresh.ensures.missing ∙ ap (missing held 0) numbers in
     let below : All (λ k. k < length cells) c.deref-5.result.now = subst (λ (xs : List ℕ). All (λ k. k < length cells) xs) (sym numbers) (meeting_bounds cells wanted) in
-    let had : HasCells P c.copy_fresh.new.patch cells (fresh held 0 (meeting cells wanted)) =
-    subst (λ (xs : List ℕ). HasCells P c.copy_fresh.new.patch cells (fresh held 0 xs)) numbers
-    (c.in_ok-copy_fresh.ensures.cells P cells (c.shape-shape.ensures.plane.shape.planes ∙ sym c.in_ok-reset.ensures.planes) here below c.requires.right) in
-    let all : HasCells P patch cells (fresh held 0 (meeting cells wanted) ++ missing held 0 (meeting cells wanted)) =
-    subst (λ (xs : List ℕ). HasCells P patch cells (fresh held 0 (meeting cells wanted) ++ xs)) gone (c.in_ok-fetch_missing.ensures.copied (fresh held 0 (meeting cells wanted)) had) in
-    let is : c.hull.result ≡ patch.rect = sym (c.fetch_missing.ensures.rect ∙ c.copy_fresh.ensures.rect ∙ c.in_ok-reset.ensures.rect) in
+    let has : HasWanted c.window_of-window.result c.reset.new.self.rect wanted = subst (λ (x : Rect). HasWanted c.window_of-window.result x wanted) (sym c.in_ok-reset.ensures.rect) c.window_of-window.ensures.has in
+    let had : HasCells P c.copy_fresh.new.patch wanted cells (fresh held 0 (meeting cells wanted)) =
+    subst (λ (xs : List ℕ). HasCells P c.copy_fresh.new.patch wanted cells (fresh held 0 xs)) numbers
+    (c.in_ok-copy_fresh.ensures.cells P wanted cells has (c.shape-shape.ensures.plane.shape.planes ∙ sym c.in_ok-reset.ensures.planes) here below c.requires.right) in
+    let all : HasCells P patch wanted cells (fresh held 0 (meeting cells wanted) ++ missing held 0 (meeting cells wanted)) =
+    subst (λ (xs : List ℕ). HasCells P patch wanted cells (fresh held 0 (meeting cells wanted) ++ xs)) gone (c.in_ok-fetch_missing.ensures.copied wanted (fresh held 0 (meeting cells wanted)) had) in
+    let is : c.hull-around.result ≡ patch.rect = sym (c.fetch_missing.ensures.rect ∙ c.copy_fresh.ensures.rect ∙ c.in_ok-reset.ensures.rect) in
     let lie : All (λ (rect : Rect). LiesIn rect patch.rect) (cells_at cells (meeting cells wanted)) =
-    subst (λ (x : Rect). All (λ (rect : Rect). LiesIn rect x) (cells_at cells (meeting cells wanted))) is (subst (λ (xs : List Rect). All (λ (rect : Rect). LiesIn rect c.hull.result) xs) rects c.hull.ensures.all) in
+    subst (λ (x : Rect). All (λ (rect : Rect). LiesIn rect x) (cells_at cells (meeting cells wanted))) is (subst (λ (xs : List Rect). All (λ (rect : Rect). LiesIn rect c.hull-around.result) xs) rects c.hull-around.ensures.all) in
     shows_wanted P patch shape cells wanted (made_up cells shape c.shape-shape.ensures.cells)
     (subst (λ (s : Shape). All (λ (rect : Rect). IsPart rect s) wanted) (shape_is P shape c.shape-shape.ensures.plane) c.requires.wanted)
-    lie (filled_from P patch cells held 0 (meeting cells wanted) all)
+    lie (filled_from P patch wanted cells held 0 (meeting cells wanted) all)

@@ -8,9 +8,9 @@ use Rattle.stage_deps.specs.Cells.{MakeUp, cells_at, meeting}
 use Rattle.stage_deps.specs.Grids.{grid_cells}
 use Rattle.stage_deps.proofs.Coverage.{meeting_bounds}
 use Rattle.stage_deps.proofs.GridCells.{grid_makes_up}
-use Rattle.kept_cells.specs.Held.{HasCells, Held, fresh, missing}
+use Rattle.kept_cells.specs.Held.{Held, fresh, missing}
 use Rattle.kept_cells.proofs.Lower.{missing_bounds}
-use Rattle.region_session.specs.Parts.{HaveSizes}
+use Rattle.region_session.specs.Parts.{HasCells, HasWanted, HaveSizes}
 use Rattle.region_session.proofs.Copying.{sizes_of}
 use Rattle.region_session.proofs.Covering.{cells_are_parts, needed_are_parts}
 use Rattle.region_session.proofs.Sizes.{small_part}
@@ -29,8 +29,8 @@ reset-requires g c =
     let up : MakeUp cells grid.shape = grid_makes_up grid.shape grid.side (omega (arith, grid.least)) in
     let numbers : c.deref.result.now ≡ meeting cells wanted = c.deref.ensures.value ∙ c.in_ok-meeting.ensures in
     let rects : c.deref-2.result.now ≡ cells_at cells (meeting cells wanted) = c.deref-2.ensures.value ∙ c.in_ok-rects_of.ensures ∙ ap (cells_at cells) numbers in
-    small_part c.hull.result grid.shape grid.limits
-    (c.hull.ensures.part grid.shape (subst (λ (xs : List Rect). All (λ (rect : Rect). IsPart rect grid.shape) xs) (sym rects) (needed_are_parts grid.shape cells wanted up)))
+    small_part c.hull-around.result grid.shape grid.limits
+    (c.hull-around.ensures.part grid.shape (subst (λ (xs : List Rect). All (λ (rect : Rect). IsPart rect grid.shape) xs) (sym rects) (needed_are_parts grid.shape cells wanted up)))
 
 pub copy_fresh-requires-clause-sizes : goal.copy_fresh-requires-clause-sizes
 copy_fresh-requires-clause-sizes g c =
@@ -78,8 +78,9 @@ returns-clause-cells g c =
     let again : c.deref-3.result.now ≡ c.deref.result.now = c.deref-3.ensures.value ∙ sym c.deref.ensures.value in
     let rects : c.deref-4.result.now ≡ cells_at cells c.deref-3.result.now = c.deref-4.ensures.value ∙ c.in_ok-rects_of.ensures ∙ ap (cells_at cells) (sym again) in
     let below : All (λ k. k < length cells) c.deref-3.result.now = subst (λ (xs : List ℕ). All (λ k. k < length cells) xs) (sym (again ∙ numbers)) (meeting_bounds cells wanted) in
+    let has : HasWanted c.window_of-window.result c.reset.new.self.rect wanted = subst (λ (x : Rect). HasWanted c.window_of-window.result x wanted) (sym c.in_ok-reset.ensures.rect) c.window_of-window.ensures.has in
     IfOk-weaker c.needs_of.result _ _
     (λ _ _ P planes right.
-    subst (λ (xs : List ℕ). HasCells P c.copy_fresh.new.patch cells (fresh held c.args.plane xs)) (again ∙ numbers)
-    (c.in_ok-copy_fresh.ensures.cells P cells (planes ∙ sym c.in_ok-reset.ensures.planes) rects below right))
+    subst (λ (xs : List ℕ). HasCells P c.copy_fresh.new.patch wanted cells (fresh held c.args.plane xs)) (again ∙ numbers)
+    (c.in_ok-copy_fresh.ensures.cells P wanted cells has (planes ∙ sym c.in_ok-reset.ensures.planes) rects below right))
     c.needs_of.ensures

@@ -9,10 +9,10 @@ use Rattle.stage_core.specs.Planes.{IsPart, IsPlane}
 use Rattle.stage_deps.specs.Cells.{cell_at}
 use Rattle.stage_deps.specs.Grids.{grid_cells}
 use Rattle.stage_deps.proofs.GridCells.{grid_length, grid_makes_up}
-use Rattle.kept_cells.specs.Held.{HasCells}
 use Rattle.kept_cells.specs.Kept.{size_of}
 use Rattle.kept_cells.proofs.Keeping.{absent_step, put_step}
 use Rattle.kept_cells.proofs.Lower.{put_others, put_right}
+use Rattle.region_session.specs.Parts.{HasCells}
 use Rattle.region_session.proofs.Copying.{cell_here, cell_told, cells_next, part_is}
 use Rattle.region_session.proofs.Sizes.{small_part}
 use Rattle.region_session.proofs.planes.run_missing.Goals as goal
@@ -82,7 +82,7 @@ loop-k-init g c =
       rect = refl;
       planes = refl;
       marks = refl;
-      copied = λ P done is_P agrees had. subst (λ (xs : List ℕ). HasCells (g.S.Stage.apply c.args.stage.now P) c.args.patch.now (grid_cells c.args.grid.now.shape c.args.grid.now.side) xs) (sym (append-nil done)) had;
+      copied = λ P wanted done is_P agrees had. subst (λ (xs : List ℕ). HasCells (g.S.Stage.apply c.args.stage.now P) c.args.patch.now wanted (grid_cells c.args.grid.now.shape c.args.grid.now.side) xs) (sym (append-nil done)) had;
       right = λ P is_P agrees right. right;
       others = record { others = λ p k other now. (now, refl) };
       kept = refl;
@@ -109,9 +109,9 @@ loop-k-preserved g c =
       rect = c.run.ensures.rect ∙ was.rect;
       planes = c.run.ensures.planes ∙ was.planes;
       marks = c.put.ensures.marks ∙ was.marks;
-      copied = λ P done is_P agrees had.
+      copied = λ P wanted done is_P agrees had.
           let copies = c.run.ensures.made P is_P (cell_told (λ x. AgreesWith P c.args.lower.now (g.S.Stage.needed stage input x)) cells numbers i cell agrees within is) in
-          cells_next (g.S.Stage.apply stage P) c.loop-k.patch c.run.new.self cells done numbers i cell within is (was.copied P done is_P agrees had) copies c.run.ensures.rect c.run.ensures.planes;
+          cells_next (g.S.Stage.apply stage P) c.loop-k.patch c.run.new.self wanted cells done numbers i cell within is (was.copied P wanted done is_P agrees had) copies c.run.ensures.rect c.run.ensures.planes;
       right = λ P is_P agrees right.
           let Q : Plane = g.S.Stage.apply stage P in
           let is_Q : IsPlane Q (g.S.Stage.shaped stage input) = g.met.S.Stage.makes_planes stage input P c.requires.shape c.requires.takes is_P in
@@ -129,5 +129,5 @@ loop-k-preserved g c =
     }
 
 pub returns-clause-copied : goal.returns-clause-copied
-returns-clause-copied g c = λ P done is_P agrees had.
-    subst (λ (xs : List ℕ). HasCells (g.S.Stage.apply c.args.stage.now P) c.loop-k.patch (grid_cells c.args.grid.now.shape c.args.grid.now.side) (done ++ xs)) (take_all c.loop-k.k-index c.args.numbers.now (omega arith)) (c.loop-k.invariant.copied P done is_P agrees had)
+returns-clause-copied g c = λ P wanted done is_P agrees had.
+    subst (λ (xs : List ℕ). HasCells (g.S.Stage.apply c.args.stage.now P) c.loop-k.patch wanted (grid_cells c.args.grid.now.shape c.args.grid.now.side) (done ++ xs)) (take_all c.loop-k.k-index c.args.numbers.now (omega arith)) (c.loop-k.invariant.copied P wanted done is_P agrees had)

@@ -5,9 +5,11 @@ use Rattle.plane_view.specs.Lent.{AgreesWith}
 use Rattle.stage_core.specs.Planes.{IsPlane}
 use Rattle.stage_deps.specs.Cells.{cell_at}
 use Rattle.stage_deps.specs.Grids.{grid_cells}
-use Rattle.kept_cells.specs.Held.{HasCells, IsRight, TakesOf}
+use Rattle.plane_view.specs.declared.Rect.{Rect}
+use Rattle.kept_cells.specs.Held.{IsRight, TakesOf}
 use Rattle.kept_cells.specs.Kept.{put_each, size_of}
 use Rattle.kept_cells.proofs.Keeping.{AbsentFrom}
+use Rattle.region_session.specs.Parts.{HasCells}
 use Rattle.region_session.proofs.planes.run_missing.Given as goal
 
 -- the cells so far are run and put
@@ -20,8 +22,8 @@ invariant-loop-k g l =
       rect : l.patch.rect ≡ l.fn.patch.rect;
       planes : l.patch.planes ≡ l.fn.patch.planes;
       marks : g.C.Cache.marks l.cache ≡ g.C.Cache.marks l.fn.cache;
-      copied : (P : Plane) (done : List ℕ) → IsPlane P l.input → All (λ (k : ℕ). AgreesWith P l.lower (its.needed l.stage l.input (cell_at cells k))) l.numbers
-          → HasCells (its.apply l.stage P) l.fn.patch cells done → HasCells (its.apply l.stage P) l.patch cells (done ++ take l.k-index l.numbers);
+      copied : (P : Plane) (wanted : List Rect) (done : List ℕ) → IsPlane P l.input → All (λ (k : ℕ). AgreesWith P l.lower (its.needed l.stage l.input (cell_at cells k))) l.numbers
+          → HasCells (its.apply l.stage P) l.fn.patch wanted cells done → HasCells (its.apply l.stage P) l.patch wanted cells (done ++ take l.k-index l.numbers);
       right : (P : Plane) → IsPlane P l.input → All (λ (k : ℕ). AgreesWith P l.lower (its.needed l.stage l.input (cell_at cells k))) l.numbers
           → IsRight (held l.fn.cache) l.plane (its.apply l.stage P) cells → IsRight (held l.cache) l.plane (its.apply l.stage P) cells;
       others : TakesOf (held l.fn.cache) (held l.cache) l.plane;
