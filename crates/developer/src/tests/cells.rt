@@ -1,6 +1,6 @@
 //! Tests of sessions over made frames: how many cells are fetched, run and kept.
 
-ghost use Rattle.std.specs.Prelude.{◌≡◌, ◌%◌, ◌≤◌, ◌^◌, length, IfSome};
+ghost use Rattle.std.specs.Prelude.{◌≡◌, ◌%◌, ◌<◌, ◌≤◌, ◌^◌, length, IfSome};
 ghost use Rattle.dng_tags.specs.Facts.{IsFrame};
 ghost use Rattle.developer.specs.Develop.{StagesStay};
 
@@ -10,7 +10,7 @@ use dng_tags::{Frame, read_frame};
 use frame_make::{Make, make_frame};
 use frame_segments::Segments;
 use plane_view::Rect;
-use region_session::{Session, Tally};
+use region_session::Session;
 use stage_core::{Base, Steps};
 use std::alloc::Global;
 use std::marker::Brand;
@@ -125,6 +125,21 @@ struct Turns {
     image: Vec<u16>,
 }
 
+/// Makes the whole plane with the root curve.
+fn with_root<B: Base>(
+    alloc: Global,
+    frame: &Frame,
+    session: &mut Session<B, DevStage>,
+) -> Option<Numbers>
+    requires frame { (bytes : _) × IsFrame frame.now bytes }
+    requires seven { length session.old.stages ≡ 7 }
+    ensures seven { length session.new.stages ≡ 7 }
+{
+    set_root(alloc, frame, session)?;
+    whole::<B, Brand>(alloc, session, Blank::new(1))?;
+    Some(numbers(session))
+}
+
 /// Makes the whole plane, then again with the root curve, then again with the same curve.
 fn in_turn(alloc: Global, file: &[u8], cell: u32, budget: u64) -> Option<Turns>
     requires short { length file.now ≤ 2 ^ 28 }
@@ -133,23 +148,16 @@ fn in_turn(alloc: Global, file: &[u8], cell: u32, budget: u64) -> Option<Turns>
     requires multiple { cell % 16 ≡ 0 }
     requires budget { budget ≤ 2 ^ 30 }
 {
-    let frame = read_frame(alloc, file).ok()?;
+    let Ok(frame) = read_frame(alloc, file) else {
+        return None;
+    };
     let mut session = open(alloc, file, &frame, cell, budget)?;
-    let mut all = Vec::new(alloc);
     let image = whole::<Segments<'_>, Brand>(alloc, &mut session, Blank::new(1))?;
-    all.push(numbers(&session)).ok()?;
-    set_root(alloc, &frame, &mut session)?;
-    let _root = whole::<Segments<'_>, Brand>(alloc, &mut session, Blank::new(1))?;
-    all.push(numbers(&session)).ok()?;
-    set_root(alloc, &frame, &mut session)?;
-    let _same = whole::<Segments<'_>, Brand>(alloc, &mut session, Blank::new(1))?;
-    let mut tally = Tally::new();
-    session.close(&mut tally);
-    all.push((tally.fetched(), tally.ran(), tally.kept())).ok()?;
-    Some(Turns {
-        numbers: all,
-        image,
-    })
+    let first = numbers(&session);
+    let second = with_root(alloc, &frame, &mut session)?;
+    let third = with_root(alloc, &frame, &mut session)?;
+    let numbers = vec![in alloc; first, second, third].ok()?;
+    Some(Turns { numbers, image })
 }
 
 /// The frame of 16 by 16 samples of 16 bits with number 5, with cells of a side of 128.
