@@ -31,7 +31,8 @@ pub record Opened : Type 0 where
   pub frame : Frame
   pub settings : Settings
 
--- an opened frame as it is between two lines, with how often a stage was changed
+-- an opened frame as it is between two lines, and how many changes its session counted: a stage that equals the one in
+-- its place is none
 pub record InForce : Type 0 where
   pub opened : Opened
   pub changes : ℕ

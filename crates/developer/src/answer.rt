@@ -3,7 +3,7 @@
 ghost use Rattle.std.specs.Prelude.{◌≡◌, ◌≢◌, ◌+◌, ◌^◌, ◌<◌, ◌≤◌, length, IfErr, IfOk, OnErr, OnOk};
 ghost use Rattle.dev_settings.specs.Commands.{command_of};
 ghost use Rattle.dev_settings.specs.Ranges.{ChangeInRange, CommandInRange};
-ghost use Rattle.developer.specs.Replies.{answer_of, command_answer, max_answer, no_command, no_stages, set_answer};
+ghost use Rattle.developer.specs.Replies.{answer_of, command_answer, max_answer, no_command, set_answer};
 ghost use Rattle.developer.specs.Writes.{Writes};
 
 use crate::opened::OpenedFrame;
@@ -82,22 +82,12 @@ fn answer_set<O: Sink>(
 {
     match frame.set(alloc, change) {
         Ok(()) => write_reply(b"ok\n", out),
+        Err(PlanFault::Matrix) => write_reply(b"no matrix\n", out),
+        Err(PlanFault::Levels) => write_reply(b"no levels\n", out),
         Err(PlanFault::Memory) => Err(Stop {
             written: 0,
             cause: Cause::Memory,
         }),
-        Err(fault) => refuse_change(fault, out),
-    }
-}
-
-/// Writes the reply to a change after which the frame has no stages.
-fn refuse_change<O: Sink>(fault: PlanFault, out: &mut O) -> Result<u64, Stop>
-    ensures writes { Writes O.stands_for O.faults out.old out.new (no_stages fault) (λ n. n) result }
-    ensures short { length (no_stages fault) ≤ max_answer }
-{
-    match fault {
-        PlanFault::Matrix => write_reply(b"no matrix\n", out),
-        PlanFault::Levels | PlanFault::Memory => write_reply(b"no levels\n", out),
     }
 }
 
