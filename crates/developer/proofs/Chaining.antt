@@ -1,9 +1,8 @@
 -- Stages that take one another, by their numbers: a session over them is opened, and takes another stage of the same shapes.
-use Rattle.std.proofs.Common.{◌≡◌, ℕ, zero, suc, ◌+◌, ◌-◌, ◌≤◌, Bool, true, false, List, [], ◌∷◌, length, take, slice_get, Option, None, Some, refl, sym, ◌∙◌, ap, subst, arith}
+use Rattle.std.proofs.Common.{◌≡◌, ℕ, zero, suc, ◌+◌, ◌-◌, ◌≤◌, List, [], ◌∷◌, length, take, slice_get, Option, None, Some, refl, sym, ◌∙◌, ap, subst, arith}
 use Rattle.std.proofs.lemmas.Option.{none-some, same_Some}
 use Rattle.plane_view.specs.declared.Shape.{Shape}
 use Rattle.stage_chain.specs.Chains.{TakeInTurn}
-use Rattle.stage_deps.specs.Stamping.{Stamped, changed}
 use Rattle.region_session.specs.Stacks.{IsFirstRefusal, IsShapeOver, last_shape, plane_shape}
 use Rattle.region_session.proofs.Layering.{some_at}
 use Rattle.dev_stages.specs.Changes.{AreLike}
@@ -46,8 +45,3 @@ never_changed stages input k stage had got least most takes like is over =
     let next : suc (k - 1) ≡ k = omega (arith, least) in
     let made : had ≡ shaped_of stage below = is ∙ (ap (λ (n : ℕ). last_shape shaped_of input (take n stages)) (sym next) ∙ (at.makes ∙ sym (alike.shapes below))) in
     like_shape stage below had got (alike.takes below at.takes) made over
-
--- a replaced stage is at most one change
-pub one_change : (old new : Stamped) (k : ℕ) (same : Bool) → (same ≡ true → new ≡ old) → (same ≡ false → new ≡ changed k old) → new.changes ≤ old.changes + 1
-one_change old new k true equal other = omega (arith, ap (λ (s : Stamped). s.changes) (equal refl))
-one_change old new k false equal other = omega (arith, ap (λ (s : Stamped). s.changes) (other refl))

@@ -20,12 +20,11 @@ use Rattle.dev_stages.specs.declared.stage.DevStage.TheVariants as stage
 use Rattle.colour_matrix.specs.Matrices.{camera_matrix}
 use Rattle.dev_settings.specs.declared.settings.Settings.{Settings}
 use Rattle.dev_stages.specs.declared.fault.PlanFault.TheVariants as fault
-use Rattle.dev_stages.specs.Laws.{planes_of, shapes_of}
 use Rattle.dev_stages.proofs.PlanLemmas.{plannable, takes_planned}
-use Rattle.frame_segments.proofs.Opening.{plane_is}
-use Rattle.region_session.specs.Sessions.{Opened as Session}
 use Rattle.region_session.specs.Stacks.{last_shape}
-use Rattle.developer.specs.Develop.{Develops, IsUnder, develop, stages_under}
+use Rattle.developer.specs.Develop.{Develops, IsInForce, develop, stages_under}
+use Rattle.developer.specs.Replies.{developed}
+use Rattle.developer.specs.Sessions.{InForce}
 
 -- the shape of a raw plane
 pub shape_of_raw : (bytes : List ℕ) (frame : Frame) → IsFrame frame bytes → shape_of (raw bytes frame) ≡ frame.shape
@@ -69,7 +68,7 @@ planned_by frame settings (Some matrix) stages is = (elim (int_lt (pos 0) (span_
 ]) is
 
 -- they are those of the development
-planned_stages : (frame : Frame) (settings : Settings) (stages : List DevStage) → planned frame settings ≡ Ok stages → stages ≡ stages_under frame settings
+pub planned_stages : (frame : Frame) (settings : Settings) (stages : List DevStage) → planned frame settings ≡ Ok stages → stages ≡ stages_under frame settings
 planned_stages frame settings stages is = planned_by frame settings (chosen_matrix frame.colour settings.matrix) stages is
 
 -- they leave three planes
@@ -79,58 +78,33 @@ three_planes frame settings stages P is =
     ∙ three_with frame settings (unwrap_or (chosen_matrix frame.colour settings.matrix) camera_matrix) P
 
 -- and make the development
-pub planned_develops : (bytes : List ℕ) (frame : Frame) (settings : Settings) (stages : List DevStage) → planned frame settings ≡ Ok stages → whole_of apply_of stages (raw bytes frame) ≡ develop bytes frame settings
+pub planned_develops : (raw : Plane) (frame : Frame) (settings : Settings) (stages : List DevStage) → planned frame settings ≡ Ok stages → whole_of apply_of stages raw ≡ develop raw frame settings
 unfolding develop
-planned_develops bytes frame settings stages is = ap (λ (xs : List DevStage). whole_of apply_of xs (raw bytes frame)) (planned_stages frame settings stages is)
+planned_develops raw frame settings stages is = ap (λ (xs : List DevStage). whole_of apply_of xs raw) (planned_stages frame settings stages is)
 
--- a plane that stages make, one after the other
-made_plane : (stages : List DevStage) (input : Shape) (P : Plane) → IsShape input → TakeInTurn takes_of shaped_of stages input → IsPlane P input
-    → IsPlane (whole_of apply_of stages P) (last_shape shaped_of input stages) × IsShape (last_shape shaped_of input stages)
-made_plane [] input P shape takes is = (is, shape)
-made_plane (s ∷ stages) input P shape takes is =
-    made_plane stages (shaped_of s input) (apply_of s P) (shapes_of s input shape takes.0) takes.1 (planes_of s input P takes.0 is)
+-- the stages in force make it
+pub in_force_develops : (now : InForce) → IsInForce now → whole_of apply_of now.session.stages now.session.plane ≡ developed now
+in_force_develops now is = planned_develops now.session.plane now.frame now.settings now.session.stages is.stages
 
--- the raw plane of a frame that was read
-pub raw_plane : (bytes : List ℕ) (frame : Frame) → IsFrame frame bytes → IsPlane (raw bytes frame) frame.shape
-raw_plane bytes frame is = plane_is bytes (coding_of frame) frame.shape frame.segments is.shape.planes
+-- and leave three planes
+pub in_force_planes : (now : InForce) → IsInForce now → (whole_of apply_of now.session.stages now.session.plane).planes ≡ 3
+in_force_planes now is = three_planes now.frame now.settings now.session.stages now.session.plane is.stages
 
--- the stages of a plan develop it
-pub plan_develops : (bytes : List ℕ) (frame : Frame) (settings : Settings) (stages : List DevStage) → IsFrame frame bytes → planned frame settings ≡ Ok stages → Develops (raw bytes frame) stages
-plan_develops bytes frame settings stages is are =
-    let input : shape_of (raw bytes frame) ≡ frame.shape = shape_of_raw bytes frame is in
-    let takes : TakeInTurn takes_of shaped_of stages frame.shape = takes_planned frame settings stages (plannable frame bytes is) are in
-    let limits : IsShape frame.shape = record {
-      some_rows = omega (arith, is.shape.some_rows);
-      rows = omega (arith, is.shape.rows);
-      some_cols = omega (arith, is.shape.some_cols);
-      cols = omega (arith, is.shape.cols);
-      some_planes = omega (arith, is.shape.planes);
-      planes = omega (arith, is.shape.planes);
-    } in
-    let made = made_plane stages frame.shape (raw bytes frame) limits takes (raw_plane bytes frame is) in
-    let last : Shape = last_shape shaped_of frame.shape stages in
-    let shape : shape_of (whole_of apply_of stages (raw bytes frame)) ≡ last = λ i. record { rows = made.0.shape.rows i; cols = made.0.shape.cols i; planes = made.0.shape.planes i } in
+-- the stages of a plan take one another over the raw plane
+pub plan_takes : (bytes : List ℕ) (frame : Frame) (settings : Settings) (stages : List DevStage) → IsFrame frame bytes → planned frame settings ≡ Ok stages
+    → TakeInTurn takes_of shaped_of stages (shape_of (raw bytes frame))
+plan_takes bytes frame settings stages is are =
+    subst (TakeInTurn takes_of shaped_of stages) (sym (shape_of_raw bytes frame is)) (takes_planned frame settings stages (plannable frame bytes is) are)
+
+-- stages whose last plane has three planes make a developed one
+pub makes_developed : (P : Plane) (stages : List DevStage) (last : Shape) → IsShape last → IsPlane (whole_of apply_of stages P) last
+    → last ≡ last_shape shaped_of (shape_of P) stages → (whole_of apply_of stages P).planes ≡ 3 → Develops P stages
+makes_developed P stages last limits is same three =
+    let shape : shape_of (whole_of apply_of stages P) ≡ last = λ i. record { rows = is.shape.rows i; cols = is.shape.cols i; planes = is.shape.planes i } in
     record {
-      takes = subst (TakeInTurn takes_of shaped_of stages) (sym input) takes;
-      shape = shape ∙ ap (λ (t : Shape). last_shape shaped_of t stages) (sym input);
-      developed = record {
-        rows = omega (arith, made.0.shape.rows, made.1.rows);
-        cols = omega (arith, made.0.shape.cols, made.1.cols);
-        planes = three_planes frame settings stages (raw bytes frame) are;
-        whole = made.0.whole;
-      };
+      shape = shape ∙ same;
+      developed = record { rows = omega (arith, is.shape.rows, limits.rows); cols = omega (arith, is.shape.cols, limits.cols); planes = three; whole = is.whole };
     }
-
--- what holds of an opened frame develops its raw plane
-pub under_develops : (bytes : List ℕ) (frame : Frame) (settings : Settings) (session : Session DevStage) → IsUnder bytes frame settings session → Develops session.plane session.stages
-under_develops bytes frame settings session is =
-    subst (λ (P : Plane). Develops P session.stages) (sym is.plane) (plan_develops bytes frame settings session.stages is.read is.stages)
-
--- the plane that it is developed to
-pub under_plane : (bytes : List ℕ) (frame : Frame) (settings : Settings) (session : Session DevStage) → IsUnder bytes frame settings session
-    → whole_of apply_of session.stages session.plane ≡ develop bytes frame settings
-under_plane bytes frame settings session is =
-    ap (whole_of apply_of session.stages) is.plane ∙ planned_develops bytes frame settings session.stages is.stages
 
 -- few opcodes have few stages
 few_listed : (opcodes : List Opcode) → length (listed opcodes) ≤ length opcodes

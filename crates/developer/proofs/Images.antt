@@ -11,7 +11,7 @@ use Rattle.dev_settings.specs.declared.format.Format.TheVariants.{Ppm, Tiff}
 use Rattle.image_out.specs.Image.{head_of, pixels_of, reply_head_of}
 use Rattle.image_out.specs.ImageLaws.{length-image_of, length-pixels_of, pixels_of-append}
 use Rattle.developer.specs.Develop.{IsDeveloped, IsWithin}
-use Rattle.developer.specs.Replies.{image, image_reply, max_answer, no_region, part_of, region_reply}
+use Rattle.developer.specs.Replies.{image, image_reply, no_region, region_reply}
 
 -- the bytes of the first k rows of a crop
 pub rows_of : Format → Plane → Rect → ℕ → List ℕ
@@ -89,16 +89,6 @@ few_samples h w rows cols =
     let first : h * w ≤ 8192 * w = mul-le-mul_right w rows in
     omega arith
 
--- the most bytes of a part
-pub few_bytes : (format : Format) (P : Plane) (rect : Rect) → IsDeveloped P → IsWithin rect P → length (pixels_of format (crop P rect).samples) ≤ 402653184
-few_bytes format P rect developed within =
-    omega (
-      arith,
-      length-pixels_of format (crop P rect).samples,
-      length-part P rect developed,
-      few_samples (rect.bottom - rect.top) (rect.right - rect.left) (let h : rect.bottom - rect.top ≤ 8192 = omega (arith, within.bottom, developed.rows) in h) (let w : rect.right - rect.left ≤ 8192 = omega (arith, within.right, developed.cols) in w),
-    )
-
 -- the length of an image
 length-image : (format : Format) (P : Plane) (rect : Rect) → IsDeveloped P
     → length (image P rect format) ≡ length (head_of format (rect.right - rect.left) (rect.bottom - rect.top)) + (rect.bottom - rect.top) * (6 * (rect.right - rect.left))
@@ -119,31 +109,11 @@ reply_pieces format P rect heads developed is =
     ap (λ (front : List ℕ). front ++ pixels) (is ∙ ap (λ (k : ℕ). reply_head_of k ++ head) (sym (length-image format P rect developed)))
     ∙ append_assoc (reply_head_of n) head pixels
 
--- the most bytes of a reply
-pub few_reply : (format : Format) (P : Plane) (rect : Rect) (heads : List ℕ) → IsDeveloped P → IsWithin rect P → length heads ≤ 256 → heads ++ pixels_of format (crop P rect).samples ≡ image_reply (image P rect format)
-    → length (image_reply (image P rect format)) ≤ max_answer
-few_reply format P rect heads developed within short is =
-    subst (λ (bytes : List ℕ). length bytes ≤ max_answer) is
-    (omega (arith, length-append heads (pixels_of format (crop P rect).samples), few_bytes format P rect developed within))
-
 -- the reply to a region, by its rectangle
-reply_some : (Q : Plane) (format : Format) (o : Option Rect) (rect : Rect) → o ≡ Some rect → region_reply Q format o ≡ image_reply (image Q rect format)
+pub reply_some : (Q : Plane) (format : Format) (o : Option Rect) (rect : Rect) → o ≡ Some rect → region_reply Q format o ≡ image_reply (image Q rect format)
 unfolding region_reply
 reply_some Q format o rect is = rw is refl
 
-reply_none : (Q : Plane) (format : Format) (o : Option Rect) → o ≡ None → region_reply Q format o ≡ no_region
+pub reply_none : (Q : Plane) (format : Format) (o : Option Rect) → o ≡ None → region_reply Q format o ≡ no_region
 unfolding region_reply
 reply_none Q format o is = rw is refl
-
--- the same of a plane that equals the one that has the rectangle
-pub region_some : (P Q : Plane) (format : Format) (x y w h : ℕ) (rect : Rect) → P ≡ Q → part_of P x y w h ≡ Some rect → region_reply Q format (part_of Q x y w h) ≡ image_reply (image P rect format)
-region_some P Q format x y w h rect same is =
-    reply_some Q format (part_of Q x y w h) rect (ap (λ (R : Plane). part_of R x y w h) (sym same) ∙ is)
-    ∙ ap (λ (R : Plane). image_reply (image R rect format)) (sym same)
-
-pub region_none : (P Q : Plane) (format : Format) (x y w h : ℕ) → P ≡ Q → part_of P x y w h ≡ None → region_reply Q format (part_of Q x y w h) ≡ no_region
-region_none P Q format x y w h same is = reply_none Q format (part_of Q x y w h) (ap (λ (R : Plane). part_of R x y w h) (sym same) ∙ is)
-
--- a refusal is short
-pub few_none : length no_region ≤ max_answer
-few_none = omega arith

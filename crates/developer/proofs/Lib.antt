@@ -1,11 +1,16 @@
 mod Answering
 mod Bands
+mod Bandwise
 mod Chaining
 mod Endings
 mod Images
 mod Openings
 mod Outsides
+mod Scripts
+mod ScriptLines
+mod Readings
 mod Pieces
+mod Replying
 mod SettingsFiles
 mod Development
 mod NamedWords

@@ -2,28 +2,28 @@
 use Rattle.std.specs.Prelude.{◌≡◌, ℕ, ◌<◌, ◌≤◌, List, Ok, unwrap_or}
 use Rattle.plane_view.specs.Plane.{Plane, IsWhole}
 use Rattle.plane_view.specs.declared.Rect.{Rect}
-use Rattle.dng_tags.specs.Facts.{IsFrame}
-use Rattle.dng_tags.specs.Raw.{raw}
 use Rattle.dng_tags.specs.declared.record.Frame.{Frame}
 use Rattle.stage_core.specs.Stages.{shape_of}
-use Rattle.stage_chain.specs.Chains.{TakeInTurn, whole_of}
+use Rattle.stage_chain.specs.Chains.{whole_of}
 use Rattle.region_session.specs.Sessions.{Opened as Session}
 use Rattle.region_session.specs.Stacks.{last_shape}
 use Rattle.colour_matrix.specs.Matrices.{camera_matrix}
 use Rattle.dev_settings.specs.Ranges.{SettingsInRange}
 use Rattle.dev_settings.specs.declared.settings.Settings.{Settings}
-use Rattle.dev_stages.specs.Members.{apply_of, shaped_of, takes_of}
+use Rattle.dev_stages.specs.Members.{apply_of, shaped_of}
+use Rattle.dev_stages.specs.Plannable.{IsPlannable}
 use Rattle.dev_stages.specs.Plans.{chosen_matrix, planned, stages_with}
 use Rattle.dev_stages.specs.declared.stage.DevStage.{DevStage}
+use Rattle.developer.specs.Sessions.{InForce}
 
 -- the stages of a frame under settings; without the forward matrix that they name, by no matrix
 abbrev pub stages_under : Frame → Settings → List DevStage
 stages_under frame settings = stages_with frame settings (unwrap_or (chosen_matrix frame.colour settings.matrix) camera_matrix)
 
 -- the whole development of an accepted frame under settings: its stages in their order, each applied once to the whole
--- plane, from the raw plane on
-unfoldable pub develop : List ℕ → Frame → Settings → Plane
-develop bytes frame settings = whole_of apply_of (stages_under frame settings) (raw bytes frame)
+-- plane, from its raw plane on
+unfoldable pub develop : Plane → Frame → Settings → Plane
+develop raw frame settings = whole_of apply_of (stages_under frame settings) raw
 
 -- what holds of each developed plane
 pub record IsDeveloped (P : Plane) : Type 0 where
@@ -39,9 +39,8 @@ pub record IsWithin (rect : Rect) (P : Plane) : Type 0 where
   pub cols : rect.left < rect.right
   pub right : rect.right ≤ P.cols
 
--- stages that take a plane one after the other, and make a developed plane of it
+-- stages that make a developed plane, of the shape that they tell
 pub record Develops (P : Plane) (stages : List DevStage) : Type 0 where
-  pub takes : TakeInTurn takes_of shaped_of stages (shape_of P)
   pub shape : shape_of (whole_of apply_of stages P) ≡ last_shape shaped_of (shape_of P) stages
   pub developed : IsDeveloped (whole_of apply_of stages P)
 
@@ -52,12 +51,8 @@ pub record StagesStay (old new : Session DevStage) : Type 0 where
   pub side : new.side ≡ old.side
   pub stamps : new.stamps ≡ old.stamps
 
--- what holds of an opened frame: it was read from these bytes, and the session has its raw plane, and the stages that the
--- settings give it
-pub record IsUnder (bytes : List ℕ) (frame : Frame) (settings : Settings) (session : Session DevStage) : Type 0 where
-  pub read : IsFrame frame bytes
-  pub in_range : SettingsInRange settings
-  pub plane : session.plane ≡ raw bytes frame
-  pub stages : planned frame settings ≡ Ok session.stages
-  pub least : 16 ≤ session.side
-  pub most : session.side ≤ 512
+-- frame and settings are in their ranges, and the session has the stages that they give
+pub record IsInForce (now : InForce) : Type 0 where
+  pub frame : IsPlannable now.frame
+  pub settings : SettingsInRange now.settings
+  pub stages : planned now.frame now.settings ≡ Ok now.session.stages

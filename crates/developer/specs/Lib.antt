@@ -1,8 +1,10 @@
+pub mod Closing
 pub mod CommandLine
 pub mod Words
 pub mod Shown
 pub mod SettingsFile
 pub mod Planning
+pub mod Sessions
 pub mod Develop
 pub mod Refusals
 pub mod Opening
@@ -10,6 +12,8 @@ pub mod Answers
 pub mod Replies
 pub mod Transcript
 pub mod Writes
+pub mod Answered
+pub mod Reading
 pub mod Pieces
 pub mod Opens
 pub mod Run

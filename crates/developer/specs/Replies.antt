@@ -1,7 +1,8 @@
--- The answer to a line of the script, over an opened frame under the settings in force. All of it is this project's own.
-use Rattle.std.specs.Prelude.{ℕ, ◌+◌, ◌^◌, nat_le, nat_lt, ◌&&◌, if◌then◌else◌, List, ◌++◌, length, Option, None, Some, Result, Ok, Err, codes}
+-- The answer to a line of the script, over what is in force. All of it is this project's own.
+use Rattle.std.specs.Prelude.{ℕ, ◌+◌, nat_le, nat_lt, ◌&&◌, if◌then◌else◌, List, [], ◌∷◌, ◌++◌, length, Option, None, Some, Result, Ok, Err, codes, decimal}
 use Rattle.plane_view.specs.Plane.{Plane, crop}
 use Rattle.plane_view.specs.declared.Rect.{Rect}
+use Rattle.region_session.specs.Sessions.{Opened as Session, samples_kept}
 use Rattle.dev_settings.specs.Commands.{command_of}
 use Rattle.dev_settings.specs.Settings.{changed}
 use Rattle.dev_settings.specs.declared.format.Format.{Format}
@@ -12,6 +13,7 @@ use Rattle.dev_settings.specs.declared.command.LineFault.TheVariants as lines
 use Rattle.dev_settings.specs.declared.settings.Change.{Change}
 use Rattle.dev_settings.specs.declared.settings.Settings.{Settings}
 use Rattle.dev_settings.specs.Lines.{line_text_of}
+use Rattle.dev_stages.specs.Changes.{number_of}
 use Rattle.dev_stages.specs.Plans.{planned}
 use Rattle.dev_stages.specs.declared.fault.PlanFault.{PlanFault}
 use Rattle.dev_stages.specs.declared.fault.PlanFault.TheVariants as plans
@@ -19,11 +21,7 @@ use Rattle.dev_stages.specs.declared.stage.DevStage.{DevStage}
 use Rattle.image_out.specs.Image.{image_of, reply_head_of}
 use Rattle.developer.specs.Answers.{Answer}
 use Rattle.developer.specs.Develop.{develop}
-use Rattle.developer.specs.Opening.{Opened}
-
--- the answer to each line that nothing answers yet
-abbrev pub no_yet : List ℕ
-no_yet = codes "no yet\n"
+use Rattle.developer.specs.Sessions.{InForce, after_bands, bands_of, restaged}
 
 -- of a change that was made
 abbrev pub done : List ℕ
@@ -50,6 +48,12 @@ no_stages plans.Matrix = codes "no matrix\n"
 no_stages plans.Levels = codes "no levels\n"
 no_stages plans.Memory = codes "no levels\n"
 
+-- of `stat`: how many cells were fetched and run since the frame was opened, how many samples are kept, and the budget
+abbrev pub stat_reply : Session DevStage → List ℕ
+stat_reply s =
+    codes "stat " ++ decimal s.fetched ++ codes " " ++ decimal s.ran ++ codes " " ++ decimal (samples_kept s)
+    ++ codes " " ++ decimal s.budget ++ codes "\n"
+
 -- the crop of a plane to a rectangle, as an image
 abbrev pub image : Plane → Rect → Format → List ℕ
 image P rect format = image_of format (crop P rect).cols (crop P rect).rows (crop P rect).samples
@@ -73,41 +77,63 @@ unfoldable pub region_reply : Plane → Format → Option Rect → List ℕ
 region_reply P format (Some rect) = image_reply (image P rect format)
 region_reply P format None = no_region
 
--- the plane that an opened frame is developed to
-abbrev pub developed : Opened → Plane
-developed frame = develop frame.bytes frame.frame frame.settings
+-- the plane that the frame is developed to
+abbrev pub developed : InForce → Plane
+developed now = develop now.session.plane now.frame now.settings
+
+-- the part that a region asks for
+abbrev pub part_in : InForce → (x y w h : ℕ) → Option Rect
+part_in now x y w h = part_of (developed now) x y w h
 
 -- these bytes, and nothing changes
-abbrev pub replied : Opened → List ℕ → Answer Opened
-replied frame bytes = record { bytes = bytes; state = frame }
+abbrev pub replied : InForce → List ℕ → Answer InForce
+replied now bytes = record { bytes = bytes; state = now }
+
+-- of a region: its bands are made, one after the other
+abbrev pub bands_in : (side : ℕ) → Option Rect → List Rect
+bands_in side (Some rect) = bands_of side rect
+bands_in side None = []
+
+unfoldable pub region_answer : InForce → Format → Option Rect → Answer InForce
+region_answer now format part = record {
+  bytes = region_reply (developed now) format part;
+  state = record now { session = after_bands now.session (bands_in now.session.side part) };
+}
 
 -- of settings after a change, by the stages of the frame under them: the change is made where there are such
-abbrev pub set_by : Opened → Settings → Result (List DevStage) PlanFault → Answer Opened
-set_by frame after (Ok stages) = record { bytes = done; state = record frame { settings = after } }
-set_by frame after (Err fault) = replied frame (no_stages fault)
+abbrev pub set_by : InForce → ℕ → Settings → Result (List DevStage) PlanFault → Answer InForce
+set_by now k after (Ok stages) = record { bytes = done; state = record now { settings = after; session = restaged now.session k stages } }
+set_by now k after (Err fault) = replied now (no_stages fault)
 
 -- of a change
-abbrev pub set_answer : Opened → Change → Answer Opened
-set_answer frame change =
-    set_by frame (changed change frame.settings) (planned frame.frame (changed change frame.settings))
+unfoldable pub set_answer : InForce → Change → Answer InForce
+set_answer now change =
+    set_by now (number_of now.frame change) (changed change now.settings) (planned now.frame (changed change now.settings))
 
 -- the answer to a command
-unfoldable pub command_answer : Opened → Result Command LineFault → Answer Opened
-command_answer frame (Ok (Region x y w h format)) =
-    replied frame (region_reply (developed frame) format (part_of (developed frame) x y w h))
-command_answer frame (Ok (Set change)) = set_answer frame change
-command_answer frame (Ok Stat) = replied frame no_yet
-command_answer frame (Err fault) = replied frame (no_command fault)
+unfoldable pub command_answer : InForce → Result Command LineFault → Answer InForce
+command_answer now (Ok (Region x y w h format)) = region_answer now format (part_in now x y w h)
+command_answer now (Ok (Set change)) = set_answer now change
+command_answer now (Ok Stat) = replied now (stat_reply now.session)
+command_answer now (Err fault) = replied now (no_command fault)
 
 -- the answer to a line, by its text
-unfoldable pub line_answer : Opened → Option (List ℕ) → Answer Opened
-line_answer frame (Some text) = command_answer frame (command_of text)
-line_answer frame None = replied frame no_line
+unfoldable pub line_answer : InForce → Option (List ℕ) → Answer InForce
+line_answer now (Some text) = command_answer now (command_of text)
+line_answer now None = replied now no_line
 
--- the answer to a line of the script, and the frame with the settings after it
-unfoldable pub answer_of : Opened → List ℕ → Answer Opened
-answer_of frame line = line_answer frame (line_text_of line)
+-- the answer to a line of the script, and what is in force after it
+unfoldable pub answer_of : InForce → List ℕ → Answer InForce
+answer_of now line = line_answer now (line_text_of line)
 
--- no answer has more bytes
-abbrev pub max_answer : ℕ
-max_answer = 2 ^ 29
+-- the bands of the region that a line asks for, if it asks for one
+abbrev pub command_bands : InForce → Result Command LineFault → List Rect
+command_bands now (Ok (Region x y w h format)) = bands_in now.session.side (part_in now x y w h)
+command_bands now _ = []
+
+abbrev pub line_bands : InForce → Option (List ℕ) → List Rect
+line_bands now (Some text) = command_bands now (command_of text)
+line_bands now None = []
+
+unfoldable pub bands_for : InForce → List ℕ → List Rect
+bands_for now line = line_bands now (line_text_of line)

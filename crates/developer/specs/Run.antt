@@ -1,9 +1,15 @@
 -- What a run promises. This is this project's own.
-use Rattle.std.specs.Prelude.{◌≡◌, ℕ, ◌<◌, ◌≤◌, ◌⊎◌, List, [], length, Option, None, Some, IfSome, Result, Ok, Err, IsOk}
+use Rattle.std.specs.Prelude.{◌≡◌, ℕ, ◌<◌, ◌≤◌, ◌⊎◌, List, [], length, Option, None, Some, IfOk, IfSome, Result, Ok, Err, IsOk}
 use Rattle.raw_io.specs.Outside.{IsFrontOf, Rises}
 use Rattle.developer.specs.Words.{Options, options}
-use Rattle.developer.specs.Opening.{FileUnread, Opening, Transcript, opened}
-use Rattle.developer.specs.Transcript.{max_script, transcript}
+use Rattle.stage_core.specs.Bases.{raised}
+use Rattle.region_session.specs.Sessions.{Opened as Session, fetched_of, kept_of, ran_of, samples_kept}
+use Rattle.region_session.specs.declared.tally.Tally.{Tally}
+use Rattle.dev_settings.specs.Lines.{lines_of}
+use Rattle.dev_stages.specs.declared.stage.DevStage.{DevStage}
+use Rattle.developer.specs.Opening.{FileUnread, Opening, opened}
+use Rattle.developer.specs.Sessions.{InForce}
+use Rattle.developer.specs.Transcript.{Transcript, answers_to, max_script, session_after, transcript}
 use Rattle.developer.specs.declared.status.Ending.{Ending}
 use Rattle.developer.specs.declared.status.Ending.TheVariants as endings
 use Rattle.developer.specs.declared.status.Status.{Status}
@@ -22,6 +28,8 @@ pub record Outside : Type 0 where
   pub script_faults : ℕ
   -- the sink's count of faults
   pub sink_faults : ℕ
+  -- the tally that the session is closed into
+  pub tally : Tally
 
 -- a call of `run`: the words, the outside before and after, the bytes that the sink took, and those taken from the script
 pub record Call : Type 0 where
@@ -61,6 +69,21 @@ ReadFailed call chosen =
     FileUnread call.before.told call.before.file_faults call.after.file_faults chosen
     ⊎ (Rises call.before.script_faults call.after.script_faults × IsOpened call)
 
+-- the tally rose by a session's numbers
+pub record RisesBy (s : Session DevStage) (before after : Tally) : Type 0 where
+  pub fetched : fetched_of after ≡ raised (fetched_of before) s.fetched
+  pub ran : ran_of after ≡ raised (ran_of before) s.ran
+  pub kept : kept_of after ≡ raised (kept_of before) (samples_kept s)
+
+-- the same of the session that there was; without one it stays
+abbrev pub IsTallied : Option (Session DevStage) → (before after : Tally) → Type 0
+IsTallied None before after = after ≡ before
+IsTallied (Some s) before after = RisesBy s before after
+
+-- exactly the complete lines that were taken of the script were answered
+abbrev pub IsAnswered : Call → InForce → Type 0
+IsAnswered call now = call.written ≡ (answers_to now (lines_of call.taken).complete).bytes
+
 -- what each status promises
 abbrev pub Ends : Call → Status → Type 0
 Ends call Done = IsCalled call Done × IfSome call.before.left (λ _. call.after.left ≡ Some [])
@@ -69,10 +92,22 @@ Ends call statuses.Frame = IsRefused call statuses.Frame × (call.taken ≡ [])
 Ends call statuses.Settings = IsRefused call statuses.Settings × (call.taken ≡ [])
 Ends call ScriptTooLong = IsCalled call ScriptTooLong × (max_script < length call.taken)
 Ends call ReadFault =
-    (length call.taken ≤ max_script) × IsPrefix call
+    (length call.taken ≤ max_script)
+    × (call.taken ≡ [] → call.written ≡ [])
+    × IfSome (opening call) (λ o. IfOk o (IsAnswered call))
     × ((chosen : Options) × (options call.words ≡ Some chosen) × ReadFailed call chosen)
 Ends call WriteFault = Rises call.before.sink_faults call.after.sink_faults × IsPrefix call
 Ends call Memory = IsPrefix call
+
+-- what each status promises of the tally: it rises by the numbers of the session after the lines that were answered, once,
+-- and stays where none was
+abbrev pub Tallies : Call → Status → Type 0
+Tallies call Done = IfSome (called call) (λ e. IsTallied e.session call.before.tally call.after.tally)
+Tallies call ScriptTooLong = IfSome (called call) (λ e. IsTallied e.session call.before.tally call.after.tally)
+Tallies call ReadFault =
+    (call.taken ≡ [] → call.after.tally ≡ call.before.tally)
+    × IfSome (opening call) (λ o. IfOk o (λ now. IsTallied (session_after now (lines_of call.taken).complete) call.before.tally call.after.tally))
+Tallies call status = call.after.tally ≡ call.before.tally
 
 -- no count rose
 pub record NoFault (call : Call) : Type 0 where
@@ -94,6 +129,7 @@ pub record Stays (call : Call) : Type 0 where
 -- what a run promises of its status: what that status says, that it ends for no other cause, and what stays
 pub record Promises (call : Call) (status : Status) : Type 0 where
   pub ends : Ends call status
+  pub tallies : Tallies call status
   pub completes : Completes call status
   pub stays : Stays call
 

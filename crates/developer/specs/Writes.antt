@@ -10,6 +10,10 @@ use Rattle.developer.specs.declared.writing.Stop.{Stop}
 abbrev pub by_write : WriteFault → Stop
 by_write fault = record { written = fault.written; cause = Write }
 
+-- memory ran out before the first byte
+abbrev pub no_memory : Stop
+no_memory = record { written = 0; cause = Memory }
+
 -- what may fail by writes alone, as what may stop
 abbrev pub stopped : {T : Type 0} → Result T WriteFault → Result T Stop
 stopped (Ok value) = Ok value

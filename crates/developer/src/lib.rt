@@ -1,10 +1,12 @@
 //! Develops the regions of a frame that a script asks for.
 //!
 //! [`run`] is the whole program over files, a script and a sink, and carries the theorem: each region of an accepted
-//! frame is written, to the byte, as the crop of the frame's whole development.
+//! frame is written, to the byte, as the crop of the frame's whole development. It answers each line by [`answer`].
 #![tactic(auto)]
 
-mod answer;
+mod changes;
+mod fault;
+mod line;
 mod opened;
 mod opening;
 mod options;
@@ -16,6 +18,8 @@ mod status;
 mod words;
 mod writing;
 
+pub use fault::AnswerFault;
+pub use line::answer;
 pub use program::run;
 pub use status::Status;
 

@@ -2,6 +2,7 @@
 
 ghost use Rattle.std.specs.Prelude.{◌≡◌, ℕ, ◌≤◌, List, [], Option, Some, map, option_map, string_bytes, IfErr, IfOk, IfSome, OnOk, Ok};
 ghost use Rattle.raw_io.specs.Outside.{Appends};
+ghost use Rattle.developer.specs.Closing.{IsFresh};
 ghost use Rattle.developer.specs.Opening.{opened};
 ghost use Rattle.dng_tags.specs.Facts.{IsFrame};
 ghost use Rattle.developer.specs.Opens.{Opens, OpensFiles, Refuses};
@@ -11,6 +12,7 @@ ghost use Rattle.developer.specs.Shown.{option_view};
 ghost use Rattle.developer.specs.Refusals.{refusal_line};
 ghost use Rattle.developer.specs.Run.{Ends, status_of};
 ghost use Rattle.developer.specs.Words.{Options as Chosen, options};
+ghost use Rattle.region_session.specs.declared.tally.Tally.{Tally};
 
 use crate::opened::OpenedFrame;
 use crate::options::Options;
@@ -103,12 +105,12 @@ fn open_frame<'a, F: Files>(
     ensures told { (other : List ℕ) → F.told files.new other ≡ F.told files.old other }
     ensures counts { (other : List ℕ) → F.faults files.old other ≤ F.faults files.new other }
     ensures opens { Opens (F.told files.old) (F.faults files.old) (F.faults files.new)
-        (record { bytes = bytes.entry.now; frame = frame }) (option_view options.now).settings result }
-    ensures unchanged { IfOk result (λ frame. frame.changes ≡ 0) }
+        (option_view options.now) (record { bytes = bytes.entry.now; frame = frame }) result }
+    ensures fresh { IfOk result (λ now. IsFresh now.session) }
 {
     let segments = Segments::open(alloc, bytes, &frame)?;
     let planned = plan_under(alloc, files, options.settings, &frame)?;
-    Ok(OpenedFrame::new(alloc, bytes, frame, segments, planned, options.cell)?)
+    Ok(OpenedFrame::new(alloc, frame, segments, planned, options)?)
 }
 
 /// Reads and opens the frame that the words ask for, under the settings that they ask for. The bytes of its file stay in
@@ -122,7 +124,7 @@ fn read_frame_file<'a, F: Files>(
     ensures told { (other : List ℕ) → F.told files.new other ≡ F.told files.old other }
     ensures counts { (other : List ℕ) → F.faults files.old other ≤ F.faults files.new other }
     ensures opens { OpensFiles (F.told files.old) (F.faults files.old) (F.faults files.new) (option_view options.now) result }
-    ensures unchanged { IfOk result (λ frame. frame.changes ≡ 0) }
+    ensures fresh { IfOk result (λ now. IsFresh now.session) }
 {
     *memory = read_all(alloc, files, options.frame, MAX_BYTES)?;
     let bytes: &'a [u8] = memory;
@@ -153,10 +155,10 @@ pub(crate) fn open<'a, F: Files, O: Sink>(
     ensures files { (name : List ℕ) → F.faults files.old name ≤ F.faults files.new name }
     ensures sink { O.faults out.old ≤ O.faults out.new }
     ensures words { OnOk result ((chosen : Chosen) × (options (map string_bytes words.now) ≡ Some chosen)) }
-    ensures opened { IfOk result (λ frame. IfSome (opened (map string_bytes words.now) (F.told files.old)) (λ o. o ≡ Ok frame.opened)) }
-    ensures unchanged { IfOk result (λ frame. frame.changes ≡ 0) }
+    ensures opened { IfOk result (λ now. IfSome (opened (map string_bytes words.now) (F.told files.old)) (λ o. o ≡ Ok now)) }
+    ensures fresh { IfOk result (λ now. IsFresh now.session) }
     ensures untouched { OnOk result (out.new ≡ out.old) }
-    ensures ended { IfErr result (λ ending. (left : Option (List ℕ)) (script_faults : ℕ) → (written : List ℕ)
+    ensures ended { IfErr result (λ ending. (left : Option (List ℕ)) (script_faults : ℕ) (tally : Tally) → (written : List ℕ)
         × Appends O.stands_for out.old out.new written
         × Ends (record {
           words = map string_bytes words.now;
@@ -166,6 +168,7 @@ pub(crate) fn open<'a, F: Files, O: Sink>(
             left = left;
             script_faults = script_faults;
             sink_faults = O.faults out.old;
+            tally = tally;
           };
           after = record {
             told = F.told files.new;
@@ -173,6 +176,7 @@ pub(crate) fn open<'a, F: Files, O: Sink>(
             left = left;
             script_faults = script_faults;
             sink_faults = O.faults out.new;
+            tally = tally;
           };
           written = written;
           taken = [];

@@ -2,21 +2,29 @@
 
 ghost use Rattle.std.specs.Prelude.{◌≡◌, ℕ, List, map, string_bytes};
 ghost use Rattle.raw_io.specs.Outside.{Appends, Takes};
-ghost use Rattle.developer.specs.Run.{Promises, status_after};
+ghost use Rattle.developer.specs.Closing.{IsClosed};
+ghost use Rattle.developer.specs.Run.{Promises};
 
+use crate::opened::OpenedFrame;
 use crate::opening::open;
 use crate::script::run_script;
-use crate::status::{Ending, Status};
+use crate::status::{Ending, Status, status_after};
 use raw_io::{Files, Sink, Source};
+use region_session::Tally;
 use std::alloc::Global;
 
-/// Runs the whole program: reads the words, the frame and the script, and answers each line of the script.
+/// Runs the whole program: reads the words, the frame and the script, and answers each line of the script before the
+/// script is read again.
+///
+/// The session that answers draw on is closed into the tally where the run ends with `Done`, `ReadFault` or
+/// `ScriptTooLong` after the frame was opened; else the tally stays.
 pub fn run<F: Files, C: Source, O: Sink>(
     alloc: Global,
     words: &[String],
     files: &mut F,
     script: &mut C,
     out: &mut O,
+    tally: &mut Tally,
 ) -> Status
     ensures { (written taken : List ℕ)
         × Appends O.stands_for out.old out.new written
@@ -29,6 +37,7 @@ pub fn run<F: Files, C: Source, O: Sink>(
             left = C.left script.old;
             script_faults = C.faults script.old;
             sink_faults = O.faults out.old;
+            tally = tally.old;
           };
           after = record {
             told = F.told files.new;
@@ -36,6 +45,7 @@ pub fn run<F: Files, C: Source, O: Sink>(
             left = C.left script.new;
             script_faults = C.faults script.new;
             sink_faults = O.faults out.new;
+            tally = tally.new;
           };
           written = written;
           taken = taken;
@@ -43,10 +53,21 @@ pub fn run<F: Files, C: Source, O: Sink>(
 {
     let mut memory = Vec::new(alloc);
     match open(alloc, words, files, out, &mut memory) {
-        Ok(mut frame) => match run_script(alloc, &mut frame, script, out) {
-            Ok(()) => Status::Done,
-            Err(ending) => ending.status(),
-        },
+        Ok(mut frame) => {
+            let ended = run_script(alloc, &mut frame, script, out);
+            close_after(frame, ended, tally);
+            status_after(ended)
+        }
         Err(ending) => ending.status(),
+    }
+}
+
+/// Closes the session of a frame into the tally, where the run ends with its script or by a read.
+fn close_after(frame: OpenedFrame<'_>, ended: Result<(), Ending>, tally: &mut Tally)
+    ensures { IsClosed ended frame.entry.session tally.old tally.new }
+{
+    match ended {
+        Ok(()) | Err(Ending::ReadFault | Ending::ScriptTooLong) => frame.close(tally),
+        Err(_) => {}
     }
 }

@@ -1,16 +1,21 @@
 //! Regions of what the stages of a session make: band by band, each a part of one row of cells.
 
-ghost use Rattle.std.specs.Prelude.{◌≡◌, ℕ, ◌+◌, ◌-◌, ◌*◌, ◌^◌, ◌≤◌, ◌<◌, ◌++◌, [], length, Ok, Err, Some, slice_get, IfOk, IfErr, IfSome, OnOk, min};
+ghost use Rattle.std.specs.Prelude.{◌≡◌, ℕ, ◌+◌, ◌-◌, ◌*◌, ◌^◌, ◌≤◌, ◌<◌, ◌⊎◌, ◌++◌, [], ◌∷◌, length, Err, IfOk, IfErr, IfSome, OnOk, min};
 ghost use Rattle.plane_view.specs.Plane.{crop};
 ghost use Rattle.plane_view.specs.Rectangles.{area_of};
+ghost use Rattle.plane_view.specs.Shapes.{IsShape};
+ghost use Rattle.plane_view.specs.declared.Shape.{Shape};
+ghost use Rattle.stage_core.specs.Planes.{IsPlane};
 ghost use Rattle.stage_core.specs.Stages.{shape_of};
-ghost use Rattle.stage_chain.specs.Chains.{TakeInTurn, whole_of};
-ghost use Rattle.dev_stages.specs.Changes.{AreLike, replaced};
-ghost use Rattle.dev_stages.specs.Members.{apply_of, shaped_of, takes_of};
+ghost use Rattle.stage_chain.specs.Chains.{whole_of};
+ghost use Rattle.region_session.specs.Stacks.{last_shape};
+ghost use Rattle.dev_stages.specs.Members.{apply_of, shaped_of};
 ghost use Rattle.image_out.specs.Image.{head_of, pixels_of, reply_head_of};
-ghost use Rattle.developer.specs.Develop.{Develops, IsWithin, StagesStay};
+ghost use Rattle.developer.specs.Answered.{AreMade, IsRefused, MadeUpTo};
+ghost use Rattle.developer.specs.Develop.{Develops, IsWithin};
 ghost use Rattle.developer.specs.Pieces.{InPieces};
-ghost use Rattle.developer.specs.Replies.{image, image_reply, max_answer, part_of};
+ghost use Rattle.developer.specs.Replies.{image, image_reply, part_of};
+ghost use Rattle.developer.specs.Sessions.{band_at, bands_of};
 ghost use Rattle.developer.specs.Writes.{Writes};
 
 use crate::writing::{Cause, Stop, write_piece, write_samples};
@@ -32,9 +37,10 @@ pub(crate) fn part<B: Base>(
     w: u32,
     h: u32,
 ) -> Option<Rect>
-    requires { Develops session.now.plane session.now.stages }
     ensures rect { result ≡ part_of (whole_of apply_of session.now.stages session.now.plane) x y w h }
     ensures within { IfSome result (λ rect. IsWithin rect (whole_of apply_of session.now.stages session.now.plane)) }
+    ensures plane { (last : Shape) × IsShape last × IsPlane (whole_of apply_of session.now.stages session.now.plane) last
+        × (last ≡ last_shape shaped_of (shape_of session.now.plane) session.now.stages) }
 {
     let Shape { rows, cols, .. } = session.shape();
     let right = u64::from(x) + u64::from(w);
@@ -51,25 +57,6 @@ pub(crate) fn part<B: Base>(
     }
 }
 
-/// Puts a stage in the place of stage `k`, counted from 1, which takes what that one takes and makes planes of the same
-/// shapes.
-pub(crate) fn replace<B: Base>(session: &mut Session<B, DevStage>, k: u32, stage: DevStage)
-    requires least { 1 ≤ k }
-    requires most { k ≤ length session.old.stages }
-    requires takes { TakeInTurn takes_of shaped_of session.old.stages (shape_of session.old.plane) }
-    requires changes { session.old.stamps.changes < 2 ^ 40 }
-    requires like { (old : DevStage) → slice_get session.old.stages (k - 1) ≡ Some old → AreLike old stage }
-    ensures stages { session.new.stages ≡ replaced k stage session.old.stages }
-    ensures plane { session.new.plane ≡ session.old.plane }
-    ensures side { session.new.side ≡ session.old.side }
-    ensures changes { session.new.stamps.changes ≤ session.old.stamps.changes + 1 }
-{
-    match session.replace(k, stage) {
-        Ok(()) => {}
-        Err(_) => unreachable!(),
-    }
-}
-
 /// Writes a part of the last plane as an image, after the line that tells its length. The line, the image's head and its
 /// first rows go out together, and rows in pieces of at least 64 KiB where there are as many.
 pub(crate) fn write_image<B: Base, O: Sink, L: Ledger>(
@@ -77,34 +64,26 @@ pub(crate) fn write_image<B: Base, O: Sink, L: Ledger>(
     session: &mut Session<B, DevStage>,
     rect: Rect,
     format: Format,
-    piece: &mut Piece,
     out: &mut O,
     work: &mut Steps<L>,
 ) -> Result<u64, Stop>
     requires develops { Develops session.old.plane session.old.stages }
     requires within { IsWithin rect (whole_of apply_of session.old.stages session.old.plane) }
-    requires least { 16 ≤ session.old.side }
-    requires most { session.old.side ≤ 512 }
     ensures writes { Writes O.stands_for O.faults out.old out.new
         (image_reply (image (whole_of apply_of session.old.stages session.old.plane) rect format)) (λ n. n) result }
-    ensures short { length (image_reply (image (whole_of apply_of session.old.stages session.old.plane) rect format)) ≤ max_answer }
-    ensures stays { StagesStay session.old session.new }
+    ensures made { OnOk result (AreMade session.old session.new (bands_of session.old.side rect) work.old work.new) }
+    ensures left { IfErr result (λ stop. MadeUpTo stop.cause session.old session.new (bands_of session.old.side rect) work.old work.new) }
 {
-    piece.clear();
+    let mut piece = Piece::new(alloc)?;
     push_heads(
         rect.right - rect.left,
         rect.bottom - rect.top,
         format,
-        piece,
+        &mut piece,
     );
     let rows = (rect.bottom - rect.top).min(session.cell());
-    let Ok(mut samples) = vec![in alloc; 0u16; rows as usize * row_length(rect)] else {
-        return Err(Stop {
-            written: 0,
-            cause: Cause::Memory,
-        });
-    };
-    write_bands(session, rect, format, piece, &mut samples, out, work)
+    let mut samples = vec![in alloc; 0u16; rows as usize * row_length(rect)]?;
+    write_bands(session, rect, format, &mut piece, &mut samples, out, work)
 }
 
 /// How many samples a row of a rectangle has, three to a pixel.
@@ -152,42 +131,31 @@ fn write_bands<B: Base, O: Sink, L: Ledger>(
 ) -> Result<u64, Stop>
     requires develops { Develops session.old.plane session.old.stages }
     requires within { IsWithin rect (whole_of apply_of session.old.stages session.old.plane) }
-    requires least { 16 ≤ session.old.side }
-    requires most { session.old.side ≤ 512 }
     requires heads { length piece.old ≤ 256 }
     requires samples { length samples.old ≡ min (rect.bottom - rect.top) session.old.side * ((rect.right - rect.left) * 3) }
     ensures writes { Writes O.stands_for O.faults out.old out.new
         (piece.old ++ pixels_of format (crop (whole_of apply_of session.old.stages session.old.plane) rect).samples) (λ n. n) result }
-    ensures stays { StagesStay session.old session.new }
+    ensures made { OnOk result (AreMade session.old session.new (bands_of session.old.side rect) work.old work.new) }
+    ensures left { IfErr result (λ stop. MadeUpTo stop.cause session.old session.new (bands_of session.old.side rect) work.old work.new) }
 {
     let side = session.cell();
     let mut written = 0;
-    let mut top = rect.top;
-    while top < rect.bottom {
-        let band = band_from(rect, top, side);
+    for k in rect.top / side..(rect.bottom + side - 1) / side {
+        let band = band_at(rect, k, side);
         written = write_band(session, band, format, piece, samples, written, out, work)?;
-        top = band.bottom;
     }
     Ok(write_piece(piece, written, out)?)
 }
 
-/// The rows of a rectangle from a row on that lie in one row of cells.
-fn band_from(rect: Rect, top: u32, side: u32) -> Rect
-    requires above { rect.top ≤ top }
-    requires below { top < rect.bottom }
-    requires rows { rect.bottom ≤ 8192 }
-    requires least { 16 ≤ side }
-    requires most { side ≤ 512 }
-    ensures top { result.top ≡ top }
-    ensures left { result.left ≡ rect.left }
-    ensures right { result.right ≡ rect.right }
-    ensures some { top < result.bottom }
-    ensures bottom { result.bottom ≤ rect.bottom }
-    ensures few { result.bottom - top ≤ side }
+/// The rows of a rectangle that lie in row `k` of the cells.
+fn band_at(rect: Rect, k: u32, side: u32) -> Rect
+    requires small { k ≤ 8192 }
+    requires side { side ≤ 512 }
+    ensures { result ≡ band_at side rect k }
 {
     Rect {
-        top,
-        bottom: rect.bottom.min(top - top % side + side),
+        top: rect.top.max(k * side),
+        bottom: rect.bottom.min(k * side + side),
         ..rect
     }
 }
@@ -217,7 +185,9 @@ fn write_band<B: Base, O: Sink, L: Ledger>(
         (all ++ pixels_of format (crop (whole_of apply_of session.old.stages session.old.plane) band).samples) (λ n. n) (Err stop)) }
     ensures room { OnOk result (length piece.new < 65536) }
     ensures number { IfOk result (λ total. total + length piece.new ≡ written + length piece.old + 2 * (area_of band * 3)) }
-    ensures stays { StagesStay session.old session.new }
+    ensures made { OnOk result (AreMade session.old session.new (band ∷ []) work.old work.new) }
+    ensures left { IfErr result (λ stop. AreMade session.old session.new (band ∷ []) work.old work.new
+        ⊎ ((stop.cause ≡ Cause.Memory) × IsRefused session.old session.new)) }
     ensures samples { length samples.new ≡ length samples.old }
 {
     let width = row_length(band);

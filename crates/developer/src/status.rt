@@ -1,10 +1,10 @@
 //! How a run ends.
 
 ghost use Rattle.std.specs.Prelude.{◌≡◌};
-ghost use Rattle.developer.specs.Run.{status_number, status_of};
+ghost use Rattle.developer.specs.Run.{status_after, status_number, status_of};
 
-use crate::writing::{Cause, Stop};
-use raw_io::WriteFault;
+use crate::writing::Cause;
+use raw_io::{Failed, WriteFault};
 use std::alloc::AllocError;
 
 /// How a run ended.
@@ -82,6 +82,16 @@ impl Ending {
     }
 }
 
+/// The status of a run that ended early, or with its script.
+pub(crate) fn status_after(ended: Result<(), Ending>) -> Status
+    ensures { result ≡ status_after ended }
+{
+    match ended {
+        Ok(()) => Status::Done,
+        Err(ending) => ending.status(),
+    }
+}
+
 impl From<WriteFault> for Ending {
     ghost use Rattle.developer.specs.declared.status.Ending.TheVariants as endings;
 
@@ -102,13 +112,23 @@ impl From<AllocError> for Ending {
     }
 }
 
-impl From<Stop> for Ending {
+impl From<Failed> for Ending {
+    ghost use Rattle.developer.specs.declared.status.Ending.TheVariants as endings;
+
+    ghost from_gives = { λ _ e. e ≡ endings.ReadFault };
+
+    fn from(_: Failed) -> Self {
+        Ending::ReadFault
+    }
+}
+
+impl From<Cause> for Ending {
     ghost use Rattle.developer.specs.Run.{ending_of};
 
-    ghost from_gives = { λ stop e. e ≡ ending_of stop.cause };
+    ghost from_gives = { λ cause e. e ≡ ending_of cause };
 
-    fn from(stop: Stop) -> Self {
-        match stop.cause {
+    fn from(cause: Cause) -> Self {
+        match cause {
             Cause::Write => Ending::WriteFault,
             Cause::Memory => Ending::Memory,
         }

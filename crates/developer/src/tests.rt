@@ -5,6 +5,7 @@ ghost use Rattle.std.specs.Prelude.{◌≡◌, ◌≤◌, ◌⊎◌};
 use crate::{Status, run};
 use ljpeg_predict::{EncodeFault, encode};
 use raw_io::{MemFiles, MemSink, MemSource};
+use region_session::Tally;
 use std::alloc::{AllocError, Global};
 use std::test::Fail;
 use test_frames::{TestFrame, bright_red, flat, patch, plain};
@@ -15,6 +16,7 @@ mod cells;
 mod lines;
 mod opcodes;
 mod settings;
+mod stat;
 
 const ROOM: usize = 1 << 16;
 
@@ -104,6 +106,7 @@ struct Outside {
     files: MemFiles,
     script: MemSource,
     out: MemSink,
+    tally: Tally,
 }
 
 impl Outside {
@@ -115,6 +118,7 @@ impl Outside {
             files,
             script: MemSource::new(alloc, script)?,
             out: MemSink::new(alloc, ROOM)?,
+            tally: Tally::new(),
         })
     }
 
@@ -130,6 +134,7 @@ impl Outside {
             &mut self.files,
             &mut self.script,
             &mut self.out,
+            &mut self.tally,
         ))
     }
 }

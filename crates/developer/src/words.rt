@@ -1,6 +1,6 @@
 //! The words of the command line.
 
-ghost use Rattle.std.specs.Prelude.{◌≡◌, ◌≤◌, ◌%◌, IfOk, IfSome, map, option_map, string_bytes};
+ghost use Rattle.std.specs.Prelude.{◌≡◌, ◌^◌, ◌≤◌, ◌%◌, IfOk, IfSome, map, option_map, string_bytes};
 ghost use Rattle.clap.specs.Words.{app_of};
 ghost use Rattle.developer.specs.CommandLine.{named_words, rawdev};
 ghost use Rattle.developer.specs.Shown.{named_view, options_view};
@@ -112,7 +112,8 @@ fn command<'a>(alloc: Global) -> Result<Command<'a>, AllocError>
 
 /// A budget of samples.
 fn budget(text: Option<&str>) -> Option<u32>
-    ensures { result ≡ budget_of (option_map (λ text. text.now) text.entry) }
+    ensures budget { result ≡ budget_of (option_map (λ text. text.now) text.entry) }
+    ensures few { IfSome result (λ samples. samples ≤ 2 ^ 30) }
 {
     let Some(text) = text else {
         return Some(BUDGET);

@@ -8,6 +8,7 @@ ghost use Rattle.developer.specs.Writes.{Writes, by_write, stopped};
 use dev_settings::Format;
 use image_out::Piece;
 use raw_io::{Sink, WriteFault, write_all};
+use std::alloc::AllocError;
 
 /// Why an answer is cut short.
 #[derive(Clone, Copy, Debug, PartialEq, Eq)]
@@ -34,6 +35,29 @@ impl From<WriteFault> for Stop {
         Stop {
             written: fault.written,
             cause: Cause::Write,
+        }
+    }
+}
+
+impl From<AllocError> for Cause {
+    ghost use Rattle.developer.specs.declared.writing.Cause.TheVariants as causes;
+
+    ghost from_gives = { λ _ cause. cause ≡ causes.Memory };
+
+    fn from(_: AllocError) -> Cause {
+        Cause::Memory
+    }
+}
+
+impl From<AllocError> for Stop {
+    ghost use Rattle.developer.specs.Writes.{no_memory};
+
+    ghost from_gives = { λ _ stop. stop ≡ no_memory };
+
+    fn from(_: AllocError) -> Stop {
+        Stop {
+            written: 0,
+            cause: Cause::Memory,
         }
     }
 }

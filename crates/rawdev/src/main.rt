@@ -3,6 +3,7 @@
 
 use developer::{Status, run};
 use raw_io::{HostFiles, StdSink, StdSource};
+use region_session::Tally;
 use std::alloc::AllocError;
 use std::process::ExitCode;
 use std::{env, io};
@@ -24,7 +25,15 @@ fn status(rt: &HostRuntime) -> Status {
     let mut files = HostFiles::new(rt);
     let mut script = StdSource::new(rt.stdin());
     let mut out = StdSink::new(rt.stdout());
-    run(rt.alloc(), &words, &mut files, &mut script, &mut out)
+    let mut tally = Tally::new();
+    run(
+        rt.alloc(),
+        &words,
+        &mut files,
+        &mut script,
+        &mut out,
+        &mut tally,
+    )
 }
 
 fn main(rt: HostRuntime) -> ExitCode {

@@ -128,11 +128,14 @@ impl<B: Base, S: Stage> Session<B, S> {
         })
     }
 
-    /// The shape of the last plane.
+    /// The shape of the last plane: each stage takes what the one before makes.
     pub fn shape(&self) -> Shape
         ensures shape { result ≡ last_shape S.shaped (shape_of self.now.plane) self.now.stages }
         ensures limits { IsShape result }
+        ensures takes { TakeInTurn S.takes S.shaped self.now.stages (shape_of self.now.plane) }
+        ensures plane { IsPlane (whole_of S.apply self.now.stages self.now.plane) result }
     {
+        let _base = self.source.base.shape();
         self.layers[self.layers.len() - 1].shape
     }
 
@@ -166,6 +169,7 @@ impl<B: Base, S: Stage> Session<B, S> {
         ensures had { IfErr result (λ fault. fault.had ≡ plane_shape S.shaped (shape_of self.old.plane) self.old.stages k) }
         ensures got { IfErr result (λ fault. IsShapeOver S.takes S.shaped stage (plane_shape S.shaped (shape_of self.old.plane) self.old.stages (k - 1)) fault.got) }
         ensures changed { IfErr result (λ fault. fault.got ≡ Some fault.had → ⊥) }
+        ensures takes { TakeInTurn S.takes S.shaped self.old.stages (shape_of self.old.plane) }
         ensures unchanged { OnErr result (self.new ≡ self.old) }
     {
         let Layer { input, shape } = self.layers[k as usize - 1];
@@ -263,9 +267,11 @@ impl<B: Base, S: Stage> Session<B, S> {
         self.tiles.budget
     }
 
-    /// The side of the cells that it was opened with.
+    /// The side of the cells that it was opened with, from 16 to 512.
     pub fn cell(&self) -> u32
-        ensures { result ≡ self.now.side }
+        ensures side { result ≡ self.now.side }
+        ensures least { 16 ≤ result }
+        ensures most { result ≤ 512 }
     {
         self.side
     }
@@ -281,6 +287,7 @@ impl<B: Base, S: Stage> Session<B, S> {
         ensures fetched { fetched_of into.new ≡ raised (fetched_of into.old) self.fetched }
         ensures ran { ran_of into.new ≡ raised (ran_of into.old) self.ran }
         ensures kept { kept_of into.new ≡ raised (kept_of into.old) (samples_kept self) }
+        ensures nothing { self.fetched ≡ 0 → self.ran ≡ 0 → samples_kept self ≡ 0 → into.new ≡ into.old }
     {
         into.raise(self.fetched(), self.ran(), self.kept());
     }

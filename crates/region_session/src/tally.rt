@@ -54,6 +54,7 @@ impl Tally {
         ensures fetched { fetched_of self.new ≡ raised (fetched_of self.old) fetched }
         ensures ran { ran_of self.new ≡ raised (ran_of self.old) ran }
         ensures kept { kept_of self.new ≡ raised (kept_of self.old) kept }
+        ensures nothing { fetched ≡ 0 → ran ≡ 0 → kept ≡ 0 → self.new ≡ self.old }
     {
         self.fetched = self.fetched.saturating_add(fetched);
         self.ran = self.ran.saturating_add(ran);

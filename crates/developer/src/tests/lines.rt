@@ -44,7 +44,7 @@ fn replies() -> [(&'static [u8], &'static [u8]); 24] {
         (b"set matrix forward2\n", b"no matrix\n"),
         (b"set black 65535\n", b"no levels\n"),
         (b"set black 65534\n", b"ok\n"),
-        (b"stat\n", b"no yet\n"),
+        (b"stat\n", b"stat 0 0 0 268435456\n"),
     ]
 }
 

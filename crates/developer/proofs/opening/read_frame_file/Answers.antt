@@ -28,5 +28,5 @@ returns-clause-opens g c =
     let as_before : g.F.Files.told c.read_all.new.files ≡ g.F.Files.told c.args.files.now = λ i name. c.in_ok-memory.ensures.contents name i in
     opens_either (g.F.Files.told c.args.files.now) (g.F.Files.faults c.args.files.now) (g.F.Files.faults c.open_frame.new.files) (option_view c.args.options.now) bytes told short
     c.in_ok-frame.frame c.in_ok-frame.ensures.answer (g.F.Files.faults c.read_all.new.files) c.in_ok-memory.ensures.counts c.open_frame.result
-    (subst (λ (told : List ℕ → Option (List ℕ)). Opens told (g.F.Files.faults c.read_all.new.files) (g.F.Files.faults c.open_frame.new.files) (record { bytes = bytes; frame = c.in_ok-frame.frame }) (option_view c.args.options.now).settings c.open_frame.result)
+    (subst (λ (told : List ℕ → Option (List ℕ)). Opens told (g.F.Files.faults c.read_all.new.files) (g.F.Files.faults c.open_frame.new.files) (option_view c.args.options.now) (record { bytes = bytes; frame = c.in_ok-frame.frame }) c.open_frame.result)
     as_before c.open_frame.ensures.opens)

@@ -4,10 +4,11 @@ use Rattle.std.proofs.lemmas.Option.{slice_get_read}
 use Rattle.plane_view.specs.declared.Shape.{Shape}
 use Rattle.plane_view.specs.Plane.{Plane}
 use Rattle.stage_core.specs.Stages.{shape_of}
+use Rattle.stage_chain.specs.Chains.{TakeInTurn}
 use Rattle.stage_deps.specs.Stamping.{Stamped}
 use Rattle.tile_cache.specs.Pairs.{Cache}
 use Rattle.region_session.specs.Stacks.{IsShapeOver, plane_shape}
-use Rattle.region_session.proofs.Layering.{layer_of, layers_set, shape_over}
+use Rattle.region_session.proofs.Layering.{in_turn, layer_of, layers_set, shape_over}
 use Rattle.region_session.proofs.Replacing.{Changes, base_kept, replaced_right}
 use Rattle.region_session.proofs.Top.{as_many}
 use Rattle.region_session.proofs.session.Session.replace.Goals as goal
@@ -128,3 +129,15 @@ returns-clause-same g c =
     subst (λ (v : _). IsShapeOver takes shaped c.args.stage (plane_shape shaped (shape_of v.plane) v.stages (k - 1)) (Some (plane_shape shaped (shape_of v.plane) v.stages k))) c.self.view_is
     (subst (λ (t : Shape). IsShapeOver takes shaped c.args.stage t (Some (plane_shape shaped input stages k))) of.stands
     (subst (λ (o : _). IsShapeOver takes shaped c.args.stage layer.input o) is over))
+
+pub returns-then-ne-clause-takes : goal.returns-then-ne-clause-takes
+returns-then-ne-clause-takes g c =
+    let s = c.self.inside in
+    subst (λ (v : _). TakeInTurn g.S.Stage.takes g.S.Stage.shaped v.stages (shape_of v.plane)) c.self.view_is
+    (in_turn g.S.Stage.takes g.S.Stage.shaped (shape_of (g.B.Base.plane s.source.base)) s.stages.items s.layers.items c.self.invariant.stand)
+
+pub returns-clause-takes : goal.returns-clause-takes
+returns-clause-takes g c =
+    let s = c.self.inside in
+    subst (λ (v : _). TakeInTurn g.S.Stage.takes g.S.Stage.shaped v.stages (shape_of v.plane)) c.self.view_is
+    (in_turn g.S.Stage.takes g.S.Stage.shaped (shape_of (g.B.Base.plane s.source.base)) s.stages.items s.layers.items c.self.invariant.stand)
