@@ -15,6 +15,7 @@ use tiff_write::{Field, Place};
 mod cells;
 mod lines;
 mod opcodes;
+mod reading;
 mod settings;
 mod stat;
 

@@ -65,6 +65,22 @@ fn lines(rt: HostRuntime) -> Result<(), Fail> {
     Ok(())
 }
 
+/// Refused lines leave nothing behind: in one script they get the replies that each gets alone, and no cell was made.
+#[test]
+fn refused_lines_in_one_script(rt: HostRuntime) -> Result<(), Fail> {
+    let alloc = rt.alloc();
+    let script =
+        b"set black 65535\nset white 0\nset matrix forward2\nset hue 1\nstat 1\nregion 0 0 1 0 ppm\n\
+        region 0 0 5 1 ppm\nstat\n";
+    let (status, bytes) = ran(alloc, &flat_file(alloc)?, script)?;
+    assert_eq!(rt; status, Status::Done);
+    assert_eq!(rt;
+        bytes.as_slice(),
+        b"no levels\nno value\nno matrix\nno key\nno word\nno region\nno region\nstat 0 0 0 268435456\n".as_slice()
+    );
+    Ok(())
+}
+
 #[test]
 fn long_lines(rt: HostRuntime) -> Result<(), Fail> {
     let alloc = rt.alloc();

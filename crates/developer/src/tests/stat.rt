@@ -23,7 +23,7 @@ use std::test::Fail;
 
 /// A made frame.
 #[derive(Clone, Copy)]
-enum Scene {
+pub(super) enum Scene {
     /// 16 by 16 samples of 16 bits, with number 5.
     OneCell,
     /// 48 by 40 packed samples, with number 9.
@@ -31,7 +31,7 @@ enum Scene {
 }
 
 impl Scene {
-    fn file(self, alloc: Global) -> Option<Vec<u8>> {
+    pub(super) fn file(self, alloc: Global) -> Option<Vec<u8>> {
         match self {
             Scene::OneCell => make_frame(alloc, 5, 16, 16, Make::Plain16).ok(),
             Scene::NineCells => make_frame(alloc, 9, 48, 40, Make::Packed12).ok(),
@@ -44,17 +44,17 @@ type Numbers = (u64, u64, u64);
 
 /// A script over a frame with cells of a side under a budget, what is written of it but for images, and the tally.
 #[derive(Clone, Copy)]
-struct Row {
-    scene: Scene,
+pub(super) struct Row {
+    pub(super) scene: Scene,
     words: &'static [&'static str],
     cell: u32,
     budget: u32,
-    script: &'static [u8],
+    pub(super) script: &'static [u8],
     text: &'static [u8],
     tally: Numbers,
 }
 
-fn one_cell() -> Row {
+pub(super) fn one_cell() -> Row {
     Row {
         scene: Scene::OneCell,
         words: &["f.dng"],
