@@ -23,23 +23,33 @@ pub crop_of_full : (P : Plane) (L : Lent) → IsFull L → AgreesWith P L L.rect
 crop_of_full P L full agrees = sym (part_whole L full) ∙ crop_of_part P L L.rect agrees
 
 -- the samples of a crop are the plane's
-pub crop_at : (P : Plane) (rect : Rect) (r c p : ℕ) → HasPixel rect r c → p < P.planes → sample_at (lent_crop P rect) r c p ≡ sample P r c p
+pub crop_at : (P : Plane) (rect : Rect) (r c p : ℕ) → HasPixel rect r c → p < P.planes
+    → sample_at (lent_crop P rect) r c p ≡ sample P r c p
 crop_at P rect r c p pixel plane = lent_at rect P.planes (sample P) r c p pixel plane
 
 -- a plane that agrees with a part on a rectangle agrees with it on a part of that
-pub agrees_with_part : (P : Plane) (L : Lent) (rect inner : Rect) → LiesIn inner rect → AgreesWith P L rect → AgreesWith P L inner
+pub agrees_with_part : (P : Plane) (L : Lent) (rect inner : Rect) → LiesIn inner rect → AgreesWith P L rect
+    → AgreesWith P L inner
 agrees_with_part P L rect inner lies agrees =
-    record { planes = agrees.planes; samples = λ r c p pixel plane. agrees.samples r c p (record { top = omega arith; bottom = omega arith; left = omega arith; right = omega arith }) plane }
+    record {
+      planes = agrees.planes;
+      samples = λ r c p pixel plane. agrees.samples r c p
+          (record { top = omega arith; bottom = omega arith; left = omega arith; right = omega arith }) plane;
+    }
 
 -- planes with the same samples at the pixels of a rectangle: the one agrees with the crop of the other
-pub agrees_with_crop : (P Q : Plane) (rect : Rect) → P.planes ≡ Q.planes → ((r c p : ℕ) → HasPixel rect r c → p < P.planes → sample P r c p ≡ sample Q r c p) → AgreesWith P (lent_crop Q rect) rect
+pub agrees_with_crop : (P Q : Plane) (rect : Rect) → P.planes ≡ Q.planes
+    → ((r c p : ℕ) → HasPixel rect r c → p < P.planes → sample P r c p ≡ sample Q r c p)
+    → AgreesWith P (lent_crop Q rect) rect
 agrees_with_crop P Q rect planes same =
     record {
       planes = planes;
-      samples = λ r c p pixel plane. same r c p pixel plane ∙ sym (crop_at Q rect r c p pixel (subst (λ (n : ℕ). p < n) planes plane));
+      samples = λ r c p pixel plane. same r c p pixel plane
+          ∙ sym (crop_at Q rect r c p pixel (subst (λ (n : ℕ). p < n) planes plane));
     }
 
 -- and then they have the same samples there
-pub agree_at : (P Q : Plane) (rect : Rect) (r c p : ℕ) → AgreesWith P (lent_crop Q rect) rect → HasPixel rect r c → p < P.planes → sample P r c p ≡ sample Q r c p
+pub agree_at : (P Q : Plane) (rect : Rect) (r c p : ℕ) → AgreesWith P (lent_crop Q rect) rect → HasPixel rect r c
+    → p < P.planes → sample P r c p ≡ sample Q r c p
 agree_at P Q rect r c p agrees pixel plane =
     agrees.samples r c p pixel plane ∙ crop_at Q rect r c p pixel (subst (λ (n : ℕ). p < n) agrees.planes plane)

@@ -7,7 +7,8 @@ use Rattle.plane_view.specs.Rectangles.{HasPixel, has_pixel}
 
 pub has_pixel-true : (r c : ℕ) (rect : Rect) → HasPixel rect r c → has_pixel r c rect ≡ true
 has_pixel-true r c rect h =
-    rw (le-leb rect.top r h.top, lt-ltb r rect.bottom h.bottom, le-leb rect.left c h.left, lt-ltb c rect.right h.right) refl
+    rw (le-leb rect.top r h.top, lt-ltb r rect.bottom h.bottom, le-leb rect.left c h.left, lt-ltb c rect.right h.right)
+    refl
 
 pub pixel_of_test : (r c : ℕ) (rect : Rect) → has_pixel r c rect ≡ true → HasPixel rect r c
 pixel_of_test r c rect e = record {

@@ -27,13 +27,19 @@ pub record IsWithin (n c by i : ℕ) : Type 0 where
   pub inside : i < n
 
 -- what is up to `by` away from c stands for something that is not farther away
-pub reflected_near : (n c by : ℕ) (i : ℤ) → 4 ≤ n → c < n → by ≤ 2 → pos c ≤ℤ (i +ℤ pos by) → i ≤ℤ pos (c + by) → IsWithin n c by (reflected n i)
+pub reflected_near : (n c by : ℕ) (i : ℤ) → 4 ≤ n → c < n → by ≤ 2 → pos c ≤ℤ (i +ℤ pos by) → i ≤ℤ pos (c + by)
+    → IsWithin n c by (reflected n i)
 reflected_near n c by (pos i) size inside few low high =
-    record { low = grind (arith, ints, nat_tests); high = grind (arith, ints, nat_tests); inside = grind (arith, ints, nat_tests) }
+    record {
+      low = grind (arith, ints, nat_tests);
+      high = grind (arith, ints, nat_tests);
+      inside = grind (arith, ints, nat_tests);
+    }
 reflected_near n c by (negsuc i) size inside few low high =
     record { low = omega (arith, ints); high = omega (arith, ints); inside = omega (arith, ints) }
 
 -- a pixel that is up to `by` rows and columns away from one of a rectangle is in the grown rectangle
-pub pixel_within : (rect : Rect) (rows cols by r c i j : ℕ) → HasPixel rect r c → IsWithin rows r by i → IsWithin cols c by j → HasPixel (grown rect by (whole_rect rows cols)) i j
+pub pixel_within : (rect : Rect) (rows cols by r c i j : ℕ) → HasPixel rect r c → IsWithin rows r by i
+    → IsWithin cols c by j → HasPixel (grown rect by (whole_rect rows cols)) i j
 pixel_within rect rows cols by r c i j pixel row col =
     record { top = omega arith; bottom = omega arith; left = omega arith; right = omega arith }

@@ -4,7 +4,8 @@ use Rattle.std.proofs.lemmas.Nat.{mul-add-lt}
 use Rattle.plane_view.specs.Lent.{Lent, IsRun, sample_at}
 
 -- a sample of a run: in pixel d of it, in plane p of n
-pub run_point : (xs : List ℕ) (L : Lent) (r left right : ℕ) → IsRun xs L r left right → (c p d n : ℕ) → c ≡ left + d → n ≡ L.planes → c < right → p < L.planes → get_or xs (d * n + p) 0 ≡ sample_at L r c p
+pub run_point : (xs : List ℕ) (L : Lent) (r left right : ℕ) → IsRun xs L r left right → (c p d n : ℕ) → c ≡ left + d
+    → n ≡ L.planes → c < right → p < L.planes → get_or xs (d * n + p) 0 ≡ sample_at L r c p
 run_point xs L r left right run c p d n column planes inside plane =
     let at : d ≡ c - left = omega arith in
     ap (λ (m : ℕ). get_or xs (d * m + p) 0) planes
@@ -12,7 +13,8 @@ run_point xs L r left right run c p d n column planes inside plane =
     ∙ run.samples c p (omega arith) inside plane
 
 -- pixel d, plane p of n, is within a run
-pub run_index : (xs : List ℕ) (L : Lent) (r left right : ℕ) → IsRun xs L r left right → (d p n : ℕ) → d < right - left → n ≡ L.planes → p < n → d * n + p < length xs
+pub run_index : (xs : List ℕ) (L : Lent) (r left right : ℕ) → IsRun xs L r left right → (d p n : ℕ) → d < right - left
+    → n ≡ L.planes → p < n → d * n + p < length xs
 run_index xs L r left right run d p n column planes plane =
     let within : d * n + p < n * (right - left) = mul-add-lt d n p (right - left) column plane in
     let same : (right - left) * n ≡ (right - left) * L.planes = ap (λ (m : ℕ). (right - left) * m) planes in

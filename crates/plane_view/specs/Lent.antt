@@ -22,7 +22,11 @@ sample_at L r c p = slice_index L.samples (place_in L.rect L.planes r c p)
 -- the part over a rectangle whose sample at (r, c, p) is f r c p
 abbrev pub lent_of : Rect → ℕ → (ℕ → ℕ → ℕ → ℕ) → Lent
 lent_of rect planes f =
-    record { rect = rect; planes = planes; samples = samples_of (height rect) (width rect) planes (λ r c p. f (rect.top + r) (rect.left + c) p) }
+    record {
+      rect = rect;
+      planes = planes;
+      samples = samples_of (height rect) (width rect) planes (λ r c p. f (rect.top + r) (rect.left + c) p);
+    }
 
 -- the part of a part that lies in a rectangle
 abbrev pub part_of : Lent → Rect → Lent
@@ -49,7 +53,8 @@ pub record HasRun (rect : Rect) (r from to : ℕ) : Type 0 where
 -- a list has the samples of row r from column left up to column right, the planes of a pixel side by side
 pub record IsRun (xs : List ℕ) (L : Lent) (r left right : ℕ) : Type 0 where
   pub long : length xs ≡ (right - left) * L.planes
-  pub samples : (c p : ℕ) → left ≤ c → c < right → p < L.planes → slice_index xs ((c - left) * L.planes + p) ≡ sample_at L r c p
+  pub samples : (c p : ℕ) → left ≤ c → c < right → p < L.planes → slice_index xs ((c - left) * L.planes + p)
+      ≡ sample_at L r c p
 
 -- the part has a sample for each place
 abbrev pub IsFull : Lent → Type 0

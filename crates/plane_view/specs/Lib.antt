@@ -1,3 +1,4 @@
+pub mod inner
 pub mod Lent
 pub mod Plane
 pub mod Rectangles

@@ -36,4 +36,5 @@ IsWhole P = length P.samples ≡ P.rows * P.cols * P.planes
 -- the crop of a plane to a rectangle
 abbrev pub crop : Plane → Rect → Plane
 crop P rect =
-    plane_of (rect.bottom - rect.top) (rect.right - rect.left) P.planes (λ r c p. sample P (rect.top + r) (rect.left + c) p)
+    plane_of (rect.bottom - rect.top) (rect.right - rect.left) P.planes
+    (λ r c p. sample P (rect.top + r) (rect.left + c) p)

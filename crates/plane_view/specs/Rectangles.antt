@@ -42,7 +42,21 @@ area_of rect = height rect * width rect
 -- the rectangle with each edge moved outwards by a number of pixels, but not past those of whole
 abbrev pub grown : Rect → ℕ → Rect → Rect
 grown rect by whole =
-    record { top = max (rect.top - by) whole.top; left = max (rect.left - by) whole.left; bottom = min (rect.bottom + by) whole.bottom; right = min (rect.right + by) whole.right }
+    record {
+      top = max (rect.top - by) whole.top;
+      left = max (rect.left - by) whole.left;
+      bottom = min (rect.bottom + by) whole.bottom;
+      right = min (rect.right + by) whole.right;
+    }
+
+-- two rows, or two columns, are at most so far apart
+pub record AreNear (by i j : ℕ) : Type 0 where
+  pub before : i ≤ j + by
+  pub after : j ≤ i + by
+
+-- the pixel at row r, column c is within so many rows and columns of a pixel of the rectangle
+abbrev pub IsNearPixel : Rect → (by r c : ℕ) → Type 0
+IsNearPixel rect by r c = (i j : ℕ) × HasPixel rect i j × AreNear by r i × AreNear by c j
 
 -- the rectangle moved down and to the right
 abbrev pub shifted : Rect → (down right : ℕ) → Rect

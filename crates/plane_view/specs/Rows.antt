@@ -20,4 +20,5 @@ IsAsLong rect planes xs = length xs ≡ width rect * planes
 -- each call that is given row r of a rectangle leaves the samples f r c p there
 abbrev pub WritesRows : (ℕ → MutBor (List ℕ) → MutBor (List ℕ) → Type 0) → Rect → ℕ → (ℕ → ℕ → ℕ → ℕ) → Type 0
 WritesRows calls rect planes f =
-    (r : ℕ) (old new : MutBor (List ℕ)) → HasRow rect r → IsAsLong rect planes old.now → IsAsLong rect planes new.now → calls r old new → IsRowOf f rect planes r new.now
+    (r : ℕ) (old new : MutBor (List ℕ)) → HasRow rect r → IsAsLong rect planes old.now → IsAsLong rect planes new.now
+    → calls r old new → IsRowOf f rect planes r new.now

@@ -1,9 +1,9 @@
--- The shapes of planes, and their limits.
+-- The shapes of planes, and their limits. This is this project's own.
 use Rattle.std.specs.Prelude.{◌≡◌, ℕ, ◌<◌, ◌≤◌, ◌^◌}
 use Rattle.plane_view.specs.declared.Shape.{Shape}
 use Rattle.plane_view.specs.Plane.{Plane}
 
--- the most rows that a plane has, and the most columns; this limit and the next two are this project's own
+-- the most rows that a plane has, and the most columns
 abbrev pub max_side : ℕ
 max_side = 8192
 

@@ -6,14 +6,16 @@
 mod tiles;
 mod views;
 
-pub use tiles::TileMut;
+pub use tiles::{TileMut, write_slice};
 pub use views::View;
 
 #[cfg(test)]
 mod tests;
 
-ghost use Rattle.std.specs.Prelude.{◌≡◌, ℕ, ◌+◌, ◌-◌, ◌*◌, ◌<◌, ◌≤◌, ◌^◌, ◌↔◌, pos, negsuc, ◌≤ℤ◌, IsTrue, IsNone, IfSome, false};
-ghost use Rattle.plane_view.specs.Rectangles.{HasPixel, IsNonEmpty, LiesIn, area_of, grown, shifted, whole_rect};
+ghost use Rattle.std.specs.Prelude.{◌≡◌, ℕ, ◌+◌, ◌-◌, ◌*◌, ◌<◌, ◌≤◌, ◌^◌, ◌↔◌, pos, negsuc, ◌≤ℤ◌, IsTrue, IsNone};
+ghost use Rattle.std.specs.Prelude.{IfSome, false};
+ghost use Rattle.plane_view.specs.Rectangles.{HasPixel, IsNearPixel, IsNonEmpty, LiesIn, area_of, grown, shifted};
+ghost use Rattle.plane_view.specs.Rectangles.{whole_rect};
 ghost use Rattle.plane_view.specs.Reflect.{reflected};
 
 /// A half-open rectangle of pixels: rows `top <= r < bottom`, columns `left <= c < right`. It is empty where an edge is
@@ -30,7 +32,8 @@ impl Rect {
     /// The rectangle of the pixels that are in both, if there is one.
     pub fn meet(&self, other: &Rect) -> Option<Rect>
         ensures none { IsNone result ↔ ((r c : ℕ) → HasPixel self.now r c → HasPixel other.now r c → ⊥) }
-        ensures pixels { IfSome result (λ both. (r c : ℕ) → HasPixel both r c ↔ (HasPixel self.now r c × HasPixel other.now r c)) }
+        ensures pixels { IfSome result (λ both. (r c : ℕ) → HasPixel both r c
+            ↔ (HasPixel self.now r c × HasPixel other.now r c)) }
         ensures some { IfSome result (λ both. IsNonEmpty both) }
         ensures inside { IfSome result (λ both. LiesIn both self.now × LiesIn both other.now) }
     {
@@ -43,9 +46,12 @@ impl Rect {
         if both.is_empty() { None } else { Some(both) }
     }
 
-    /// The rectangle grown by a number of pixels on all sides, and clipped to `whole`.
+    /// The rectangle grown by a number of pixels on all sides, and clipped to `whole`: the pixels of `whole` that are
+    /// within so many rows and columns of one of its own.
     pub fn grow(&self, by: u32, whole: &Rect) -> Rect
         ensures edges { result ≡ grown self.now by whole.now }
+        ensures pixels { IsNonEmpty self.now → (r c : ℕ) → HasPixel result r c
+            ↔ (HasPixel whole.now r c × IsNearPixel self.now by r c) }
         ensures inside { LiesIn self.now whole.now → LiesIn result whole.now × LiesIn self.now result }
     {
         Rect {

@@ -121,7 +121,7 @@ fn tiles(rt: HostRuntime) {
     assert!(rt; samples == [8, 8, 0, 1, 0, 0, 7, 4, 5, 5, 5, 5]);
 
     let mut rows = [0; 8];
-    TileMut::new(rect(0, 0, 2, 4), 1, &mut rows).write_rows(|r, row| row.fill(r as u16));
+    write_slice(rect(0, 0, 2, 4), 1, &mut rows, |r, row| row.fill(r as u16));
     assert!(rt; rows == [0, 0, 0, 0, 1, 1, 1, 1]);
 
     let mut pixel = [0; 3];

@@ -4,14 +4,14 @@ ghost use Rattle.std.specs.Borrow.{MutBor};
 ghost use Rattle.std.specs.Fn.{FnOnceReturnsAtMut};
 ghost use Rattle.plane_view.specs.Rectangles.{HasPixel, LiesIn, width, area_of};
 ghost use Rattle.plane_view.specs.Rows.{IsAsLong, HasSamples, WritesRows};
-ghost use Rattle.plane_view.specs.Lent.{Lent, HasRow, HasRun, place_in, sample_at};
+ghost use Rattle.plane_view.specs.Lent.{Lent, HasRow, HasRun, lent_of, place_in, sample_at};
 
 use crate::{Rect, View};
 
 /// A rectangle, a number of planes, and the samples of the rectangle's pixels, lent for writing.
 ///
-/// A contract sees all that was lent as `loan`, a `Lent`, and the rectangle that the tile writes, which may be a part of
-/// it, as `tile_rect`.
+/// A contract sees all that was lent as `loan`, a `Lent`, and the rectangle that the tile writes, which may be a part
+/// of it, as `tile_rect`.
 #[derive(Drop)]
 pub struct TileMut<'a> {
     rect: Rect,
@@ -23,10 +23,12 @@ pub struct TileMut<'a> {
 }
 
 impl<'a> TileMut<'a> {
-    ghost use Rattle.plane_view.specs.Tiles.{loan, tile_rect, lent_name, row_in, SameLoan, PutsSample, PutsRun, CopiesFrom, KeepsOtherRows};
+    ghost use Rattle.plane_view.specs.Tiles.{loan, tile_rect, lent_name, row_in, SameLoan, PutsSample, CopiesFrom};
+    ghost use Rattle.plane_view.specs.Tiles.{KeepsOtherRows};
+    ghost use Rattle.plane_view.specs.inner.Runs.{PutsRun};
 
-    /// The tile of all samples of a slice, row by row, the planes of a pixel side by side. When the loan ends, the slice
-    /// holds what was written.
+    /// The tile of all samples of a slice, row by row, the planes of a pixel side by side. When the loan ends, the
+    /// slice holds what was written.
     pub fn new(rect: Rect, planes: u32, samples: &'a mut [u16]) -> TileMut<'a>
         requires { length samples.old ≡ area_of rect * planes }
         ensures slice { lent_name result ≡ samples.entry.ghost_name }
@@ -80,9 +82,11 @@ impl<'a> TileMut<'a> {
     /// Hands row `r` to `write`: the slice of its samples, the planes of a pixel side by side.
     pub fn write_row<F: FnOnce(&mut [u16])>(&mut self, r: u32, write: F)
         requires row { HasRow (tile_rect self.old) r }
-        requires can { (row : MutBor (List ℕ)) → row.now ≡ row_in (loan self.old) (tile_rect self.old) r → length row.now ≡ width (tile_rect self.old) * (loan self.old).planes → F.pre write row }
+        requires can { (row : MutBor (List ℕ)) → row.now ≡ row_in (loan self.old) (tile_rect self.old) r
+            → length row.now ≡ width (tile_rect self.old) * (loan self.old).planes → F.pre write row }
         ensures loan { SameLoan self.old self.new }
-        ensures row { FnOnceReturnsAtMut F.FnOnce write (row_in (loan self.old) (tile_rect self.old) r) tt (row_in (loan self.new) (tile_rect self.new) r) }
+        ensures row { FnOnceReturnsAtMut F.FnOnce write (row_in (loan self.old) (tile_rect self.old) r) tt
+            (row_in (loan self.new) (tile_rect self.new) r) }
         ensures others { KeepsOtherRows (loan self.old) (loan self.new) (tile_rect self.old) r }
     {
         let Rect { left, right, .. } = self.rect;
@@ -94,16 +98,19 @@ impl<'a> TileMut<'a> {
     /// Hands each row to `write`, from the top down: its number, and the slice of its samples.
     pub fn write_rows<F: Fn(u32, &mut [u16])>(&mut self, write: F)
         requires order { (tile_rect self.old).left ≤ (tile_rect self.old).right }
-        requires can { (r : ℕ) (row : MutBor (List ℕ)) → HasRow (tile_rect self.old) r → IsAsLong (tile_rect self.old) (loan self.old).planes row.now → F.pre write r row }
+        requires can { (r : ℕ) (row : MutBor (List ℕ)) → HasRow (tile_rect self.old) r
+            → IsAsLong (tile_rect self.old) (loan self.old).planes row.now → F.pre write r row }
         ensures loan { SameLoan self.old self.new }
-        ensures rows { (f : ℕ → ℕ → ℕ → ℕ) → WritesRows (λ r old new. F.post write r old tt new) (tile_rect self.old) (loan self.old).planes f → HasSamples f (loan self.new) (tile_rect self.old) }
+        ensures rows { (f : ℕ → ℕ → ℕ → ℕ) → WritesRows (λ r old new. F.post write r old tt new) (tile_rect self.old)
+            (loan self.old).planes f → HasSamples f (loan self.new) (tile_rect self.old) }
     {
         for r in self.rect.top..self.rect.bottom {
             self.write_row(
                 r,
                 |row: &mut [u16]|
                     requires { (y : MutBor (List ℕ)) → y.now ≡ row.now → F.pre write r y }
-                    ensures { (y : MutBor (List ℕ)) × (z : MutBor (List ℕ)) × F.post write r y tt z × (y.now ≡ row.entry.now) × (z.now ≡ row.exit.now) }
+                    ensures { (y : MutBor (List ℕ)) × (z : MutBor (List ℕ)) × F.post write r y tt z
+                        × (y.now ≡ row.entry.now) × (z.now ≡ row.exit.now) }
                 { write(r, row) },
             );
         }
@@ -145,4 +152,16 @@ impl<'a> TileMut<'a> {
         let start = pixel * self.planes as usize;
         (start, (right - left) as usize * self.planes as usize)
     }
+}
+
+/// Lends a slice to a tile, hands each row of the rectangle to `write`, from the top down, and gives the slice back. It
+/// then holds what was written, row by row, the planes of a pixel side by side.
+pub fn write_slice<F: Fn(u32, &mut [u16])>(rect: Rect, planes: u32, samples: &mut [u16], write: F)
+    requires order { rect.left ≤ rect.right }
+    requires long { length samples.old ≡ area_of rect * planes }
+    requires can { (r : ℕ) (row : MutBor (List ℕ)) → HasRow rect r → IsAsLong rect planes row.now → F.pre write r row }
+    ensures { (f : ℕ → ℕ → ℕ → ℕ) → WritesRows (λ r old new. F.post write r old tt new) rect planes f
+        → samples.new ≡ (lent_of rect planes f).samples }
+{
+    TileMut::new(rect, planes, samples).write_rows(write);
 }

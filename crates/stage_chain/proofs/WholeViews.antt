@@ -8,14 +8,17 @@ use Rattle.plane_view.specs.Lent.{AgreesWith, Lent}
 use Rattle.plane_view.specs.Plane.{Plane}
 use Rattle.plane_view.specs.Rectangles.{whole_rect}
 use Rattle.stage_core.specs.Planes.{IsPlane}
-use Rattle.stage_chain.specs.Chains.{plane_with, sample_count}
+use Rattle.stage_chain.specs.inner.Samples.{plane_with, sample_count}
 
 -- samples of a shape make a whole plane
-pub whole_with : (shape : Shape) (samples : List ℕ) → length samples ≡ sample_count shape → IsPlane (plane_with shape samples) shape
+pub whole_with : (shape : Shape) (samples : List ℕ) → length samples ≡ sample_count shape
+    → IsPlane (plane_with shape samples) shape
 whole_with shape samples long = record { whole = long; shape = record { rows = refl; cols = refl; planes = refl } }
 
 -- the view of a whole plane agrees with it everywhere
-pub whole_agrees : (shape : Shape) (samples : List ℕ) (V : Lent) (need : Rect) → V ≡ record { rect = whole_rect shape.rows shape.cols; planes = shape.planes; samples = samples } → AgreesWith (plane_with shape samples) V need
+pub whole_agrees : (shape : Shape) (samples : List ℕ) (V : Lent) (need : Rect)
+    → V ≡ record { rect = whole_rect shape.rows shape.cols; planes = shape.planes; samples = samples }
+    → AgreesWith (plane_with shape samples) V need
 whole_agrees shape samples V need is =
     subst (λ (L : Lent). AgreesWith (plane_with shape samples) L need) (sym is) (record {
       planes = refl;
@@ -23,9 +26,15 @@ whole_agrees shape samples V need is =
     })
 
 -- a plane of a shape, by its samples
-pub plane_is : (shape : Shape) (P : Plane) (samples : List ℕ) → IsPlane P shape → samples ≡ P.samples → plane_with shape samples ≡ P
+pub plane_is : (shape : Shape) (P : Plane) (samples : List ℕ) → IsPlane P shape → samples ≡ P.samples
+    → plane_with shape samples ≡ P
 plane_is shape P samples is same =
-    λ i. record { rows = sym is.shape.rows i; cols = sym is.shape.cols i; planes = sym is.shape.planes i; samples = same i }
+    λ i. record {
+      rows = sym is.shape.rows i;
+      cols = sym is.shape.cols i;
+      planes = sym is.shape.planes i;
+      samples = same i;
+    }
 
 -- a vector whose slice was written whole holds what was written
 pub written_whole : (n : ℕ) (new old : List ℕ) → n ≡ length new → take n (new ++ drop (length new) old) ≡ new

@@ -1,15 +1,7 @@
 -- Stages one after the other, each over the whole plane that the one before makes. This is this project's own.
-use Rattle.std.specs.Prelude.{ℕ, ◌*◌, ⊤, List, [], ◌∷◌}
+use Rattle.std.specs.Prelude.{⊤, List, [], ◌∷◌}
 use Rattle.plane_view.specs.declared.Shape.{Shape}
 use Rattle.plane_view.specs.Plane.{Plane}
-
--- how many samples a plane of a shape has
-abbrev pub sample_count : Shape → ℕ
-sample_count shape = shape.rows * shape.cols * shape.planes
-
--- the plane of a shape with these samples
-abbrev pub plane_with : Shape → List ℕ → Plane
-plane_with shape samples = record { rows = shape.rows; cols = shape.cols; planes = shape.planes; samples = samples }
 
 -- all stages applied in turn
 abbrev pub whole_of : {S : Type 0} → (S → Plane → Plane) → List S → Plane → Plane

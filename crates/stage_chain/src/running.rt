@@ -3,7 +3,8 @@
 ghost use Rattle.std.specs.Prelude.{◌≡◌, ◌+◌, ◌≤◌, length, IfOk, OnOk};
 ghost use Rattle.plane_view.specs.Shapes.{IsShape};
 ghost use Rattle.stage_core.specs.Stages.{shape_of};
-ghost use Rattle.stage_chain.specs.Chains.{TakeInTurn, plane_with, sample_count, whole_of};
+ghost use Rattle.stage_chain.specs.Chains.{TakeInTurn, whole_of};
+ghost use Rattle.stage_chain.specs.inner.Samples.{plane_with, sample_count};
 
 use crate::whole_plane::{WholePlane, sample_count};
 use plane_view::{Shape, TileMut, View};
@@ -57,8 +58,8 @@ fn make<S: Stage, L: Ledger>(
     })
 }
 
-/// Runs stages one after the other, each once over the whole plane that the one before made, into two memories that they
-/// use in turn.
+/// Runs stages one after the other, each once over the whole plane that the one before made, into two memories that
+/// they use in turn.
 ///
 /// # Errors
 ///

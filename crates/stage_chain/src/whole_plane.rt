@@ -5,7 +5,7 @@ ghost use Rattle.plane_view.specs.Plane.{IsWhole};
 ghost use Rattle.plane_view.specs.Shapes.{IsShape};
 ghost use Rattle.stage_core.specs.Planes.{IsPlane};
 ghost use Rattle.stage_core.specs.Stages.{shape_of};
-ghost use Rattle.stage_chain.specs.Chains.{sample_count};
+ghost use Rattle.stage_chain.specs.inner.Samples.{sample_count};
 
 use plane_view::Shape;
 use stage_core::{Base, Steps, fetch_all};
@@ -25,11 +25,16 @@ impl Model for WholePlane {
     ghost use Rattle.std.specs.Prelude.{◌≡◌, length};
     ghost use Rattle.plane_view.specs.Plane.{Plane};
     ghost use Rattle.plane_view.specs.Shapes.{IsShape};
-    ghost use Rattle.stage_chain.specs.Chains.{sample_count};
+    ghost use Rattle.stage_chain.specs.inner.Samples.{sample_count};
 
     ghost Value = { Plane };
 
-    ghost view = { λ w. record { rows = w.shape.rows; cols = w.shape.cols; planes = w.shape.planes; samples = w.samples.items } };
+    ghost view = { λ w. record {
+      rows = w.shape.rows;
+      cols = w.shape.cols;
+      planes = w.shape.planes;
+      samples = w.samples.items;
+    } };
 
     ghost invariant = { λ w. IsShape w.shape × (length w.samples.items ≡ sample_count w.shape) };
 }

@@ -9,7 +9,8 @@ use Rattle.plane_view.proofs.Pixels.{pixel_of_test}
 use Rattle.stage_core.specs.Bases.{AreCells}
 
 -- an element that passes a test, by its number
-pub any_at : {A : Type 0} (p : A → Bool) (xs : List A) (k : ℕ) (x : A) → slice_get xs k ≡ Some x → p x ≡ true → list_any p xs ≡ true
+pub any_at : {A : Type 0} (p : A → Bool) (xs : List A) (k : ℕ) (x : A) → slice_get xs k ≡ Some x → p x ≡ true
+    → list_any p xs ≡ true
 any_at p [] k x at pass = cc
 any_at p (y ∷ ys) zero x at pass = let same : y ≡ x = cc in rw same (rw pass refl)
 any_at p (y ∷ ys) (suc k) x at pass =
@@ -18,7 +19,8 @@ any_at p (y ∷ ys) (suc k) x at pass =
       | inr f ↦ rw f (any_at p ys k x at pass)
     ]
 
-pub one_of_any : {A : Type 0} (p : A → Bool) (xs : List A) → list_any p xs ≡ true → (k : ℕ) × (x : A) × (slice_get xs k ≡ Some x) × (p x ≡ true)
+pub one_of_any : {A : Type 0} (p : A → Bool) (xs : List A) → list_any p xs ≡ true → (k : ℕ) × (x : A)
+    × (slice_get xs k ≡ Some x) × (p x ≡ true)
 one_of_any p [] any = cc
 one_of_any p (y ∷ ys) any =
     elim (cases_Bool (p y)) [
@@ -30,7 +32,8 @@ one_of_any p (y ∷ ys) any =
     ]
 
 -- each pixel is in a cell
-pub cell_of_pixel : (cells : List Rect) (s : Shape) (r c : ℕ) → AreCells cells s → r < s.rows → c < s.cols → (k : ℕ) × (rect : Rect) × (slice_get cells k ≡ Some rect) × HasPixel rect r c
+pub cell_of_pixel : (cells : List Rect) (s : Shape) (r c : ℕ) → AreCells cells s → r < s.rows → c < s.cols → (k : ℕ)
+    × (rect : Rect) × (slice_get cells k ≡ Some rect) × HasPixel rect r c
 cell_of_pixel cells s r c are hr hc =
     let found = one_of_any (has_pixel r c) cells (are.covered r c hr hc) in
     (found.0, found.1, found.2, pixel_of_test r c found.1 found.3)

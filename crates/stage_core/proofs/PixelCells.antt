@@ -22,7 +22,8 @@ count_of_pixels n = sym (length-map-range_with_len pixel 0 n)
 pub pixel_at : (n k : ℕ) → k < length (pixels n) → slice_get (pixels n) k ≡ Some (pixel k)
 pixel_at n k h =
     let within : k < n = omega (arith, count_of_pixels n) in
-    slice_get-get_or (pixels n) k (pixel 0) h ∙ ap Some (get_or-map-range_with_len pixel 0 n k k (pixel 0) within (omega arith))
+    slice_get-get_or (pixels n) k (pixel 0) h
+    ∙ ap Some (get_or-map-range_with_len pixel 0 n k k (pixel 0) within (omega arith))
 
 same_rect : {A : Type 0} (a b : A) → Some a ≡ Some b → a ≡ b
 same_rect a b e = cc
@@ -46,7 +47,13 @@ pixels_are_cells n some few =
             some = record { rows = omega arith; cols = omega arith };
             inside = record { top = omega arith; bottom = omega arith; left = omega arith; right = omega arith };
           });
-      covered = λ r c hr hc. any_at (has_pixel r c) (pixels n) c (pixel c) (pixel_at n c (omega arith)) (has_pixel-true r c (pixel c) (record { top = omega arith; bottom = hr; left = omega arith; right = omega arith }));
+      covered = λ r c hr hc. any_at (has_pixel r c) (pixels n) c (pixel c) (pixel_at n c (omega arith))
+          (has_pixel-true r c (pixel c) (record {
+            top = omega arith;
+            bottom = hr;
+            left = omega arith;
+            right = omega arith;
+          }));
       apart = λ i k one other ei ek r c in_one in_other.
           let a = subst (λ (x : Rect). HasPixel x r c) (sym (pixel_is n i one ei).1) in_one in
           let b = subst (λ (x : Rect). HasPixel x r c) (sym (pixel_is n k other ek).1) in_other in

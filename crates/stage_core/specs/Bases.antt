@@ -12,7 +12,8 @@ pub record AreCells (cells : List Rect) (s : Shape) : Type 0 where
   pub most : length cells ≤ 65536
   pub part : (k : ℕ) (rect : Rect) → slice_get cells k ≡ Some rect → IsPart rect s
   pub covered : (r c : ℕ) → r < s.rows → c < s.cols → list_any (has_pixel r c) cells ≡ true
-  pub apart : (i k : ℕ) (one other : Rect) → slice_get cells i ≡ Some one → slice_get cells k ≡ Some other → (r c : ℕ) → HasPixel one r c → HasPixel other r c → i ≡ k
+  pub apart : (i k : ℕ) (one other : Rect) → slice_get cells i ≡ Some one → slice_get cells k ≡ Some other → (r c : ℕ)
+      → HasPixel one r c → HasPixel other r c → i ≡ k
 
 -- a count that rose by n, held at the greatest number of 64 bits
 abbrev pub raised : ℕ → ℕ → ℕ

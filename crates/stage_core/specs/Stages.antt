@@ -25,15 +25,19 @@ Makes meaning whole input need out =
 -- locality: of planes of a shape that agree on one rectangle, a meaning makes planes that agree on another
 abbrev pub IsLocal : (Plane → Plane) → Shape → (need rect : Rect) → Type 0
 IsLocal meaning whole need rect =
-    (P Q : Plane) → IsPlane P whole → IsPlane Q whole → AgreesWith P (lent_crop Q need) need → AgreesWith (meaning P) (lent_crop (meaning Q) rect) rect
+    (P Q : Plane) → IsPlane P whole → IsPlane Q whole → AgreesWith P (lent_crop Q need) need
+    → AgreesWith (meaning P) (lent_crop (meaning Q) rect) rect
 
 -- two stages take the same shapes, and have the same shapes, needs and meanings
-pub record AreAlike {S : Type 0} (takes : S → Shape → Type 0) (shaped : S → Shape → Shape) (needed : S → Shape → Rect → Rect) (apply : S → Plane → Plane) (s t : S) : Type 0 where
+pub record AreAlike {S : Type 0} (takes : S → Shape → Type 0) (shaped : S → Shape → Shape) (needed : S → Shape → Rect
+    → Rect) (apply : S → Plane → Plane) (s t : S) : Type 0 where
   pub inputs : (input : Shape) → takes s input → takes t input
   pub shapes : (input : Shape) → shaped s input ≡ shaped t input
   pub needs : (input : Shape) (rect : Rect) → needed s input rect ≡ needed t input rect
   pub meanings : (P : Plane) → apply s P ≡ apply t P
 
 -- a formula of a sample, from samples by place, rests on those of a rectangle
-pub record RestsOn (formula : (ℕ → ℕ → ℕ → ℕ) → ℕ → ℕ → ℕ → ℕ) (inputs : ℕ) (need : Rect) (outputs : ℕ) (rect : Rect) : Type 0 where
-  pub same : (f g : ℕ → ℕ → ℕ → ℕ) → ((r c p : ℕ) → HasPixel need r c → p < inputs → f r c p ≡ g r c p) → (r c p : ℕ) → HasPixel rect r c → p < outputs → formula f r c p ≡ formula g r c p
+pub record RestsOn (formula : (ℕ → ℕ → ℕ → ℕ) → ℕ → ℕ → ℕ → ℕ) (inputs : ℕ) (need : Rect) (outputs : ℕ) (rect : Rect) :
+    Type 0 where
+  pub same : (f g : ℕ → ℕ → ℕ → ℕ) → ((r c p : ℕ) → HasPixel need r c → p < inputs → f r c p ≡ g r c p) → (r c p : ℕ)
+      → HasPixel rect r c → p < outputs → formula f r c p ≡ formula g r c p

@@ -65,13 +65,16 @@ pub trait Stage: PartialEq + Drop {
     ghost makes_shapes: { (s : Self) (input : Shape) → IsShape input → takes s input → IsShape (shaped s input) };
 
     /// What is made of a whole plane is a whole plane of that shape.
-    ghost makes_planes: { (s : Self) (input : Shape) (P : Plane) → IsShape input → takes s input → IsPlane P input → IsPlane (apply s P) (shaped s input) };
+    ghost makes_planes: { (s : Self) (input : Shape) (P : Plane) → IsShape input → takes s input → IsPlane P input
+        → IsPlane (apply s P) (shaped s input) };
 
     /// What a part rests on is a part of the input.
-    ghost needs_part: { (s : Self) (input : Shape) (rect : Rect) → IsShape input → takes s input → IsPart rect (shaped s input) → IsPart (needed s input rect) input };
+    ghost needs_part: { (s : Self) (input : Shape) (rect : Rect) → IsShape input → takes s input
+        → IsPart rect (shaped s input) → IsPart (needed s input rect) input };
 
     /// What is made of planes that agree on what a part rests on agrees on the part.
-    ghost local: { (s : Self) (input : Shape) (rect : Rect) → IsShape input → takes s input → IsPart rect (shaped s input) → IsLocal (apply s) input (needed s input rect) rect };
+    ghost local: { (s : Self) (input : Shape) (rect : Rect) → IsShape input → takes s input
+        → IsPart rect (shaped s input) → IsLocal (apply s) input (needed s input rect) rect };
 
     /// Equal stages take the same shapes, and have the same shapes, needs and meanings.
     ghost equal_alike: { (s t : Self) → Self.eq s t ≡ true → AreAlike takes shaped needed apply s t };

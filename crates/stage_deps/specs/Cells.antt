@@ -1,5 +1,6 @@
 -- Cells of a plane, and the ones that meet rectangles. This is this project's own.
-use Rattle.std.specs.Prelude.{◌≡◌, ℕ, ◌+◌, ◌<◌, List, [], ◌∷◌, map, get_or, slice_get, Some, min, max, Bool, true, cond, ◌&&◌, nat_lt}
+use Rattle.std.specs.Prelude.{◌≡◌, ℕ, ◌+◌, ◌<◌, List, [], ◌∷◌, map, get_or, slice_get, Some, min, max, Bool, true, cond}
+use Rattle.std.specs.Prelude.{◌&&◌, nat_lt}
 use Rattle.std.specs.List.{list_any}
 use Rattle.plane_view.specs.declared.Rect.{Rect}
 use Rattle.plane_view.specs.declared.Shape.{Shape}
@@ -40,4 +41,5 @@ cells_at cells numbers = map (cell_at cells) numbers
 pub record MakeUp (cells : List Rect) (s : Shape) : Type 0 where
   pub part : (k : ℕ) (rect : Rect) → slice_get cells k ≡ Some rect → IsPart rect s
   pub covered : (r c : ℕ) → r < s.rows → c < s.cols → list_any (has_pixel r c) cells ≡ true
-  pub apart : (i k : ℕ) (one other : Rect) → slice_get cells i ≡ Some one → slice_get cells k ≡ Some other → (r c : ℕ) → HasPixel one r c → HasPixel other r c → i ≡ k
+  pub apart : (i k : ℕ) (one other : Rect) → slice_get cells i ≡ Some one → slice_get cells k ≡ Some other → (r c : ℕ)
+      → HasPixel one r c → HasPixel other r c → i ≡ k

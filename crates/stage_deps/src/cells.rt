@@ -73,7 +73,8 @@ pub fn rects_of(cells: &[Rect], numbers: &[u32], rects: &mut Vec<Rect>) -> Resul
 /// The least rectangle that contains all of these, edge by edge; of none a rectangle with no pixel.
 pub fn hull(rects: &[Rect]) -> Rect
     ensures all { All (λ rect. LiesIn rect result) rects.now }
-    ensures least { (outer : Rect) → 1 ≤ length rects.now → All (λ rect. LiesIn rect outer) rects.now → LiesIn result outer }
+    ensures least { (outer : Rect) → 1 ≤ length rects.now → All (λ rect. LiesIn rect outer) rects.now
+        → LiesIn result outer }
     ensures none { length rects.now ≡ 0 → result ≡ no_rect }
     ensures part { (s : Shape) → All (λ rect. IsPart rect s) rects.now → LiesIn result (whole_rect s.rows s.cols) }
 {

@@ -29,7 +29,8 @@ pub fn below<S: Stage>(
     requires takes { S.takes stage.now input }
     requires upper { All (λ rect. IsPart rect (S.shaped stage.now input)) upper.now }
     requires lower { length lower.now < 2 ^ 32 }
-    ensures numbers { IfOk result (λ numbers. numbers.items ≡ meeting lower.now (map (S.needed stage.now input) upper.now)) }
+    ensures numbers { IfOk result
+        (λ numbers. numbers.items ≡ meeting lower.now (map (S.needed stage.now input) upper.now)) }
     ensures rising { IfOk result (λ numbers. IsStrictlyIncreasing numbers.items) }
 {
     let mut needs = Vec::new(alloc);

@@ -7,8 +7,8 @@ ghost use Rattle.stage_deps.specs.Stamping.{begun, changed, stamped_from};
 use std::alloc::{AllocError, Global};
 use std::marker::Model;
 
-/// The stamp of each plane: the number, counted from 1, of the last change of it or of a plane below it, or 0. Contracts
-/// see the stamps and the number of changes.
+/// The stamp of each plane: the number, counted from 1, of the last change of it or of a plane below it, or 0.
+/// Contracts see the stamps and the number of changes.
 #[derive(Drop)]
 pub struct Stamps {
     stamps: Vec<u64>,

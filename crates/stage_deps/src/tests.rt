@@ -50,7 +50,12 @@ impl Stage for Same {
 
     ghost local = { λ _ input rect is takes part P Q is_P is_Q agrees. agrees };
 
-    ghost equal_alike = { λ _ _ _. record { inputs = λ input takes. takes; shapes = λ input. refl; needs = λ input rect. refl; meanings = λ P. refl } };
+    ghost equal_alike = { λ _ _ _. record {
+      inputs = λ input takes. takes;
+      shapes = λ input. refl;
+      needs = λ input rect. refl;
+      meanings = λ P. refl;
+    } };
 }
 
 fn rect(top: u32, left: u32, bottom: u32, right: u32) -> Rect

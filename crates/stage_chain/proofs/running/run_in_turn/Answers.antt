@@ -15,7 +15,8 @@ loop-stage-preserved g c =
     let next = next_stage c.args.stages.now l.stage-index stage (omega arith) c.stage-item.is in
     let later = drop (l.stage-index + 1) c.args.stages.now in
     let takes = subst (λ xs. TakeInTurn g.S.Stage.takes g.S.Stage.shaped xs (shape_of P)) next l.invariant.takes in
-    let same = subst (λ xs. whole_of g.S.Stage.apply xs P ≡ whole_of g.S.Stage.apply c.args.stages.now c.args.plane) next l.invariant.same in
+    let same = subst (λ xs. whole_of g.S.Stage.apply xs P ≡ whole_of g.S.Stage.apply c.args.stages.now c.args.plane)
+    next l.invariant.same in
     let made : c.in_ok-made.made ≡ Q = c.in_ok-made.ensures.made in
     let shape : g.S.Stage.shaped stage (shape_of P) ≡ shape_of c.in_ok-made.made = sym c.in_ok-made.ensures.shape in
     record {

@@ -11,7 +11,10 @@ pub returns-clause-samples : goal.returns-clause-samples
 returns-clause-samples g c =
     let P : Plane = g.B.Base.plane c.args.base.now in
     let tile = c.fetch_cells.new.tile in
-    let lent : (loan c.new-tile.result).rect ≡ whole_rect P.rows P.cols = ap (λ (L : Lent). L.rect) c.new-tile.ensures.lent ∙ (c.rect.ensures ∙ whole_rect_is P c.shape-shape.result c.shape-shape.ensures.plane) in
+    let lent : (loan c.new-tile.result).rect ≡ whole_rect P.rows P.cols =
+    ap (λ (L : Lent). L.rect) c.new-tile.ensures.lent
+    ∙ (c.rect.ensures ∙ whole_rect_is P c.shape-shape.result c.shape-shape.ensures.plane) in
     let is : (loan tile).rect ≡ whole_rect P.rows P.cols = c.fetch_cells.ensures.rect ∙ lent in
-    let agrees : AgreesWith P (loan tile) (loan tile).rect = subst (λ (R : Rect). AgreesWith P (loan tile) R) (sym c.fetch_cells.ensures.rect) c.fetch_cells.ensures.samples in
+    let agrees : AgreesWith P (loan tile) (loan tile).rect = subst (λ (R : Rect). AgreesWith P (loan tile) R)
+    (sym c.fetch_cells.ensures.rect) c.fetch_cells.ensures.samples in
     (search rules) ∙ whole_samples P (loan tile) c.shape-shape.ensures.plane.whole is tile.long agrees

@@ -13,7 +13,12 @@ loop-r-init c =
     record {
       same = same_loan c.args.self.now;
       copied = λ r c' p mine theirs below plane.
-          let both : HasPixel c.in-Some.both r c' = (c.in-Some.ensures.pixels r c').1 (mine, subst (λ (x : Rect). HasPixel x r c') (sym c.rect.ensures) theirs) in
+          let both : HasPixel c.in-Some.both r c' =
+          (c.in-Some.ensures.pixels r c').1 (
+            mine,
+            subst (λ (x : Rect). HasPixel x r c') (sym c.rect.ensures)
+                theirs,
+          ) in
           absurd (omega arith);
       others = λ r c' p inside out plane. refl;
     }
@@ -33,12 +38,20 @@ loop-r-preserved c =
     let now_plane : (p : ℕ) → p < c.args.self.now.planes → p < c.loop-r.self.planes =
     λ p plane. subst (λ (n : ℕ). p < n) (sym c.loop-r.invariant.same.planes) plane in
     record {
-      same = then_loan c.args.self.now c.loop-r.self c.copy_run.new.self c.loop-r.invariant.same c.copy_run.ensures.loan;
+      same = then_loan c.args.self.now c.loop-r.self c.copy_run.new.self c.loop-r.invariant.same
+          c.copy_run.ensures.loan;
       copied = λ r c' p mine theirs below plane.
-          let shared : HasPixel both r c' = (c.in-Some.ensures.pixels r c').1 (mine, subst (λ (x : Rect). HasPixel x r c') (sym c.rect.ensures) theirs) in
+          let shared : HasPixel both r c' =
+          (c.in-Some.ensures.pixels r c').1 (
+            mine,
+            subst (λ (x : Rect). HasPixel x r c') (sym c.rect.ensures)
+                theirs,
+          ) in
           ⊎_elim
           (λ (earlier : r < c.loop-r.r).
-          c.copy_run.ensures.puts.others r c' p (now_home r c' (pixel_in c.args.self.now.home c.args.self.now.rect r c' c.args.self.now.inside mine)) (now_plane p plane) (λ same from to. omega arith)
+          c.copy_run.ensures.puts.others r c' p
+          (now_home r c' (pixel_in c.args.self.now.home c.args.self.now.rect r c' c.args.self.now.inside mine))
+          (now_plane p plane) (λ same from to. omega arith)
           ∙ c.loop-r.invariant.copied r c' p mine theirs earlier plane)
           (λ (last : c.loop-r.r ≤ r).
           let is : r ≡ c.loop-r.r = omega arith in
@@ -52,7 +65,8 @@ loop-r-preserved c =
       others = λ r c' p inside out plane.
           c.copy_run.ensures.puts.others r c' p (now_home r c' inside) (now_plane p plane)
           (λ same from to.
-          let shared : HasPixel both r c' = record { top = omega arith; bottom = omega arith; left = from; right = to } in
+          let shared : HasPixel both r c' = record { top = omega arith; bottom = omega arith; left = from; right = to }
+          in
           let found = (c.in-Some.ensures.pixels r c').0 shared in
           out found.0 (subst (λ (x : Rect). HasPixel x r c') c.rect.ensures found.1) (omega arith))
           ∙ c.loop-r.invariant.others r c' p inside (λ mine theirs below. out mine theirs (omega arith)) plane;
@@ -62,7 +76,13 @@ pub returns-clause-copies : goal.returns-clause-copies
 returns-clause-copies c =
     record {
       copied = λ r c' p mine theirs plane.
-          let shared : HasPixel c.in-Some.both r c' = (c.in-Some.ensures.pixels r c').1 (mine, subst (λ (x : Rect). HasPixel x r c') (sym c.rect.ensures) theirs) in
+          let shared : HasPixel c.in-Some.both r c' =
+          (c.in-Some.ensures.pixels r c').1 (
+            mine,
+            subst (λ (x : Rect). HasPixel x r c') (sym c.rect.ensures)
+                theirs,
+          ) in
           c.loop-r.invariant.copied r c' p mine theirs (omega arith) plane;
-      others = λ r c' p inside out plane. c.loop-r.invariant.others r c' p inside (λ mine theirs below. out mine theirs) plane;
+      others = λ r c' p inside out plane. c.loop-r.invariant.others r c' p inside (λ mine theirs below. out mine theirs)
+          plane;
     }

@@ -1,7 +1,8 @@
 use Rattle.std.proofs.Common.{◌≡◌, ◌+◌, ◌-◌, ◌*◌, List, ℕ, refl, subst, arith}
 use borrow.Rule.Slice.PartMut.{put_mid}
 use Rattle.plane_view.specs.Lent.{place_in}
-use Rattle.plane_view.specs.Tiles.{loan, PutsRun}
+use Rattle.plane_view.specs.Tiles.{loan}
+use Rattle.plane_view.specs.inner.Runs.{PutsRun}
 use Rattle.plane_view.proofs.Writes.{run_outside, part_run, with_samples}
 use Rattle.plane_view.proofs.tiles.TileMut.copy_run.Goals as goal
 
@@ -9,7 +10,8 @@ pub returns-clause-loan : goal.returns-clause-loan
 returns-clause-loan c =
     let t = c.args.self.now in
     let n : ℕ = c.args.right - c.args.left in
-    let len : c.run_at-start.result.0 + c.run_at-start.result.1 - c.run_at-start.result.0 ≡ n * t.planes = omega arith in
+    let len : c.run_at-start.result.0 + c.run_at-start.result.1 - c.run_at-start.result.0 ≡ n * t.planes =
+    omega arith in
     record {
       slice = refl;
       home = refl;
@@ -17,15 +19,21 @@ returns-clause-loan c =
       rect = refl;
       outside = λ r' c' p pixel out plane.
           rw (c.copy_from_slice.ensures.after, len, c.run_at-start.ensures.start)
-          (run_outside (loan t) t.rect c.args.r c.args.left c.args.right c.args.run.now t.long t.inside c.requires.pixels c.requires.long r' c' p pixel out plane);
+          (run_outside (loan t) t.rect c.args.r c.args.left c.args.right c.args.run.now t.long t.inside
+          c.requires.pixels c.requires.long r' c' p pixel out plane);
     }
 
 pub returns-clause-puts : goal.returns-clause-puts
 returns-clause-puts c =
     let t = c.args.self.now in
     let n : ℕ = c.args.right - c.args.left in
-    let len : c.run_at-start.result.0 + c.run_at-start.result.1 - c.run_at-start.result.0 ≡ n * t.planes = omega arith in
-    let same : put_mid (place_in t.home t.planes c.args.r c.args.left 0) (n * t.planes) t.samples.now c.args.run.now ≡ put_mid c.run_at-start.result.0 (c.run_at-start.result.0 + c.run_at-start.result.1 - c.run_at-start.result.0) t.samples.now c.copy_from_slice.new.self =
+    let len : c.run_at-start.result.0 + c.run_at-start.result.1 - c.run_at-start.result.0 ≡ n * t.planes =
+    omega arith in
+    let same : put_mid (place_in t.home t.planes c.args.r c.args.left 0) (n * t.planes) t.samples.now c.args.run.now
+    ≡ put_mid c.run_at-start.result.0 (c.run_at-start.result.0 + c.run_at-start.result.1 - c.run_at-start.result.0)
+    t.samples.now c.copy_from_slice.new.self =
     rw (len, c.run_at-start.ensures.start, c.copy_from_slice.ensures.after) refl in
-    subst (λ (xs : List ℕ). PutsRun (loan t) (with_samples (loan t) xs) c.args.r c.args.left c.args.right c.args.run.now) same
-    (part_run (loan t) t.rect c.args.r c.args.left c.args.right c.args.run.now t.long t.inside c.requires.pixels c.requires.long)
+    subst (λ (xs : List ℕ). PutsRun (loan t) (with_samples (loan t) xs) c.args.r c.args.left c.args.right
+    c.args.run.now) same
+    (part_run (loan t) t.rect c.args.r c.args.left c.args.right c.args.run.now t.long t.inside c.requires.pixels
+    c.requires.long)

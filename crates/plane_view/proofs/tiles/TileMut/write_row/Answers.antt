@@ -4,7 +4,8 @@ use Rattle.std.proofs.lemmas.List.{length-take-le, length-drop}
 use Rattle.std.specs.Fn.{FnOnceReturnsAtMut}
 use Rattle.plane_view.specs.Rectangles.{width}
 use Rattle.plane_view.specs.Lent.{HasRun, place_in}
-use Rattle.plane_view.specs.Tiles.{loan, row_in, PutsRun}
+use Rattle.plane_view.specs.Tiles.{loan, row_in}
+use Rattle.plane_view.specs.inner.Runs.{PutsRun}
 use Rattle.plane_view.proofs.Writes.{run_outside, part_run, row_written, with_samples}
 use Rattle.plane_view.proofs.tiles.TileMut.write_row.Goals as goal
 
@@ -17,7 +18,8 @@ write-requires g c =
     let now : take (start + len - start) (drop start t.samples.now) ≡ row_in (loan t) t.rect c.args.r =
     rw (same_len, c.run_at-start.ensures.start) refl in
     let long : length (take (start + len - start) (drop start t.samples.now)) ≡ width t.rect * t.planes =
-    length-take-le (start + len - start) (drop start t.samples.now) (omega (arith, length-drop start t.samples.now)) ∙ same_len in
+    length-take-le (start + len - start) (drop start t.samples.now) (omega (arith, length-drop start t.samples.now))
+    ∙ same_len in
     search (rules, now, long)
 
 pub returns-clause-loan : goal.returns-clause-loan
@@ -27,8 +29,16 @@ returns-clause-loan g c =
     let start : ℕ = c.run_at-start.result.0 in
     let len : start + c.run_at-start.result.1 - start ≡ width t.rect * t.planes = omega arith in
     let long : length ws ≡ width t.rect * t.planes =
-    c.write.auto.arg2 ∙ length-take-le _ (drop start t.samples.now) (omega (arith, length-drop start t.samples.now)) ∙ len in
-    let run : HasRun t.rect c.args.r t.rect.left t.rect.right = record { top = c.requires.row.top; bottom = c.requires.row.bottom; left = omega arith; order = c.requires.row.cols; right = omega arith } in
+    c.write.auto.arg2 ∙ length-take-le _ (drop start t.samples.now) (omega (arith, length-drop start t.samples.now))
+    ∙ len in
+    let run : HasRun t.rect c.args.r t.rect.left t.rect.right =
+    record {
+      top = c.requires.row.top;
+      bottom = c.requires.row.bottom;
+      left = omega arith;
+      order = c.requires.row.cols;
+      right = omega arith;
+    } in
     record {
       slice = refl;
       home = refl;
@@ -36,7 +46,8 @@ returns-clause-loan g c =
       rect = refl;
       outside = λ r' c' p pixel out plane.
           rw (len, c.run_at-start.ensures.start)
-          (run_outside (loan t) t.rect c.args.r t.rect.left t.rect.right ws t.long t.inside run long r' c' p pixel out plane);
+          (run_outside (loan t) t.rect c.args.r t.rect.left t.rect.right ws t.long t.inside run long r' c' p pixel out
+          plane);
     }
 
 pub returns-clause-row : goal.returns-clause-row
@@ -47,13 +58,17 @@ returns-clause-row g c =
     let taken : ℕ = start + c.run_at-start.result.1 - start in
     let len : taken ≡ width t.rect * t.planes = omega arith in
     let long : length ws ≡ width t.rect * t.planes =
-    c.write.auto.arg2 ∙ length-take-le _ (drop start t.samples.now) (omega (arith, length-drop start t.samples.now)) ∙ len in
+    c.write.auto.arg2 ∙ length-take-le _ (drop start t.samples.now) (omega (arith, length-drop start t.samples.now))
+    ∙ len in
     let before : row_in (loan t) t.rect c.args.r ≡ take taken (drop start t.samples.now) =
     rw (len, c.run_at-start.ensures.start) refl in
     let after : row_in (with_samples (loan t) (put_mid start taken t.samples.now ws)) t.rect c.args.r ≡ ws =
-    rw (len, c.run_at-start.ensures.start) (row_written (loan t) t.rect c.args.r ws t.long t.inside c.requires.row long) in
-    let called : FnOnceReturnsAtMut g.F.FnOnce c.args.write (take taken (drop start t.samples.now)) tt ws = search rules in
-    subst (λ (new : List ℕ). FnOnceReturnsAtMut g.F.FnOnce c.args.write (row_in (loan t) t.rect c.args.r) tt new) (sym after)
+    rw (len, c.run_at-start.ensures.start) (row_written (loan t) t.rect c.args.r ws t.long t.inside c.requires.row long)
+    in
+    let called : FnOnceReturnsAtMut g.F.FnOnce c.args.write (take taken (drop start t.samples.now)) tt ws =
+    search rules in
+    subst (λ (new : List ℕ). FnOnceReturnsAtMut g.F.FnOnce c.args.write (row_in (loan t) t.rect c.args.r) tt new)
+    (sym after)
     (subst (λ (old : List ℕ). FnOnceReturnsAtMut g.F.FnOnce c.args.write old tt ws) (sym before) called)
 
 pub returns-clause-others : goal.returns-clause-others
@@ -64,11 +79,22 @@ returns-clause-others g c =
     let taken : ℕ = start + c.run_at-start.result.1 - start in
     let len : taken ≡ width t.rect * t.planes = omega arith in
     let long : length ws ≡ width t.rect * t.planes =
-    c.write.auto.arg2 ∙ length-take-le _ (drop start t.samples.now) (omega (arith, length-drop start t.samples.now)) ∙ len in
-    let run : HasRun t.rect c.args.r t.rect.left t.rect.right = record { top = c.requires.row.top; bottom = c.requires.row.bottom; left = omega arith; order = c.requires.row.cols; right = omega arith } in
-    let same : put_mid (place_in t.home t.planes c.args.r t.rect.left 0) (width t.rect * t.planes) t.samples.now ws ≡ put_mid start taken t.samples.now ws =
+    c.write.auto.arg2 ∙ length-take-le _ (drop start t.samples.now) (omega (arith, length-drop start t.samples.now))
+    ∙ len in
+    let run : HasRun t.rect c.args.r t.rect.left t.rect.right =
+    record {
+      top = c.requires.row.top;
+      bottom = c.requires.row.bottom;
+      left = omega arith;
+      order = c.requires.row.cols;
+      right = omega arith;
+    } in
+    let same : put_mid (place_in t.home t.planes c.args.r t.rect.left 0) (width t.rect * t.planes) t.samples.now ws
+    ≡ put_mid start taken t.samples.now ws =
     rw (len, c.run_at-start.ensures.start) refl in
-    let puts : PutsRun (loan t) (with_samples (loan t) (put_mid start taken t.samples.now ws)) c.args.r t.rect.left t.rect.right ws =
+    let puts : PutsRun (loan t) (with_samples (loan t) (put_mid start taken t.samples.now ws)) c.args.r t.rect.left
+    t.rect.right ws =
     subst (λ (xs : List ℕ). PutsRun (loan t) (with_samples (loan t) xs) c.args.r t.rect.left t.rect.right ws) same
     (part_run (loan t) t.rect c.args.r t.rect.left t.rect.right ws t.long t.inside run long) in
-    λ r' c' p pixel plane other. puts.others r' c' p pixel plane (λ row from to. other row (record { top = omega arith; bottom = omega arith; left = from; right = to }))
+    λ r' c' p pixel plane other. puts.others r' c' p pixel plane
+    (λ row from to. other row (record { top = omega arith; bottom = omega arith; left = from; right = to }))

@@ -8,5 +8,8 @@ pub returns : goal.returns
 returns c =
     let v = c.self.inside in
     let lender : Lent = record { rect = v.home; planes = v.planes; samples = v.samples.now } in
-    let P : Lent → Type 0 = λ V. HasPixel V.rect c.args.r c.args.c → c.args.p < V.planes → get_or v.samples.now (place_in v.home v.planes c.args.r c.args.c c.args.p) 0 ≡ sample_at V c.args.r c.args.c c.args.p in
-    subst P c.self.view_is (λ pixel plane. sym (part_at lender v.rect c.args.r c.args.c c.args.p pixel plane)) c.requires.pixel c.requires.plane
+    let P : Lent → Type 0 = λ V. HasPixel V.rect c.args.r c.args.c → c.args.p < V.planes
+    → get_or v.samples.now (place_in v.home v.planes c.args.r c.args.c c.args.p) 0 ≡ sample_at V c.args.r c.args.c
+    c.args.p in
+    subst P c.self.view_is (λ pixel plane. sym (part_at lender v.rect c.args.r c.args.c c.args.p pixel plane))
+    c.requires.pixel c.requires.plane

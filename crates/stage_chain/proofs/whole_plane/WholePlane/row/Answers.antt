@@ -8,7 +8,8 @@ slice_bounds-result-end c =
     let s = c.self.inside in
     let rows = ap (λ (P : Plane). P.rows) c.self.view_is in
     let cols = ap (λ (P : Plane). P.cols) c.self.view_is in
-    let within = run_within s.shape.rows s.shape.cols s.shape.planes c.args.row c.args.left c.args.right (omega (arith, rows, c.requires.row)) c.requires.left (omega (arith, cols, c.requires.right)) in
+    let within = run_within s.shape.rows s.shape.cols s.shape.planes c.args.row c.args.left c.args.right
+    (omega (arith, rows, c.requires.row)) c.requires.left (omega (arith, cols, c.requires.right)) in
     search (rules, within)
 
 pub returns-clause-samples : goal.returns-clause-samples
@@ -19,4 +20,5 @@ returns-clause-samples c =
     let long : start + count - start ≡ count = omega arith in
     ap (λ (n : ℕ). take n (drop start c.deref.result.now)) long
     ∙ (ap (λ (xs : List ℕ). take count (drop start xs)) c.deref.ensures.value
-    ∙ ap (λ (P : Plane). take ((c.args.right - c.args.left) * P.planes) (drop ((c.args.row * P.cols + c.args.left) * P.planes) P.samples)) c.self.view_is)
+    ∙ ap (λ (P : Plane). take ((c.args.right - c.args.left) * P.planes)
+    (drop ((c.args.row * P.cols + c.args.left) * P.planes) P.samples)) c.self.view_is)

@@ -19,10 +19,21 @@ pub returns-clause-plane : goal.returns-clause-plane
 returns-clause-plane c = grid_makes_up c.args.self.now.shape c.args.self.now.side (omega (arith, c.args.self.now.least))
 
 pub returns-clause-few : goal.returns-clause-few
-returns-clause-few c = omega (arith, grid_length c.args.self.now.shape c.args.self.now.side, c.count-k-end.ensures.count, c.count-k-end.ensures.most)
+returns-clause-few c = omega (
+  arith,
+  grid_length c.args.self.now.shape c.args.self.now.side,
+  c.count-k-end.ensures.count,
+  c.count-k-end.ensures.most,
+)
 
 pub returns-in_err-push-clause-plane : goal.returns-in_err-push-clause-plane
-returns-in_err-push-clause-plane c = grid_makes_up c.args.self.now.shape c.args.self.now.side (omega (arith, c.args.self.now.least))
+returns-in_err-push-clause-plane c = grid_makes_up c.args.self.now.shape c.args.self.now.side
+    (omega (arith, c.args.self.now.least))
 
 pub returns-in_err-push-clause-few : goal.returns-in_err-push-clause-few
-returns-in_err-push-clause-few c = omega (arith, grid_length c.args.self.now.shape c.args.self.now.side, c.count-k-end.ensures.count, c.count-k-end.ensures.most)
+returns-in_err-push-clause-few c = omega (
+  arith,
+  grid_length c.args.self.now.shape c.args.self.now.side,
+  c.count-k-end.ensures.count,
+  c.count-k-end.ensures.most,
+)

@@ -17,15 +17,18 @@ loop-k-preserved c =
       | then-meets_within+in_ok-push w ↦
           ap (λ v. v.items ++ rest) w.numbers-is
           ∙ ap (λ (xs : List ℕ). xs ++ rest) w.in_ok-push.ensures.items
-          ∙ meeting_more rects cells c.loop-k.numbers.items k c.rect.result c.rect.ensures.cell (sym c.meets_within.ensures ∙ w.if-meets_within.true)
+          ∙ meeting_more rects cells c.loop-k.numbers.items k c.rect.result c.rect.ensures.cell
+          (sym c.meets_within.ensures ∙ w.if-meets_within.true)
           ∙ c.loop-k.invariant
       | else-meets_within w ↦
           ap (λ v. v.items ++ rest) w.numbers-is
-          ∙ meeting_less rects cells c.loop-k.numbers.items k c.rect.result c.rect.ensures.cell (sym c.meets_within.ensures ∙ w.if-meets_within.false)
+          ∙ meeting_less rects cells c.loop-k.numbers.items k c.rect.result c.rect.ensures.cell
+          (sym c.meets_within.ensures ∙ w.if-meets_within.false)
           ∙ c.loop-k.invariant
     ]
 
 pub returns : goal.returns
 returns c =
     let grid = c.args.self.now in
-    all_seen (grid_cells grid.shape grid.side) c.args.rects.now c.loop-k.k c.loop-k.numbers.items c.loop-k.invariant (omega (arith, grid_length grid.shape grid.side, c.count-k-end.ensures.count))
+    all_seen (grid_cells grid.shape grid.side) c.args.rects.now c.loop-k.k c.loop-k.numbers.items c.loop-k.invariant
+    (omega (arith, grid_length grid.shape grid.side, c.count-k-end.ensures.count))
