@@ -17,6 +17,8 @@ unfolding number_of
 thirteen = refl
 
 -- the bytes 81 02
-two_bytes : byte_bits (0x81 ∷ 0x02 ∷ []) ≡ true ∷ false ∷ false ∷ false ∷ false ∷ false ∷ false ∷ true ∷ false ∷ false ∷ false ∷ false ∷ false ∷ false ∷ true ∷ false ∷ []
+two_bytes : byte_bits (0x81 ∷ 0x02 ∷ [])
+    ≡ true ∷ false ∷ false ∷ false ∷ false ∷ false ∷ false ∷ true
+    ∷ false ∷ false ∷ false ∷ false ∷ false ∷ false ∷ true ∷ false ∷ []
 unfolding bits_of
 two_bytes = refl

@@ -1,4 +1,4 @@
-//! Binary digits of numbers, most significant first: definitions and laws.
+//! Binary digits of numbers and of bytes, most significant first: definitions and laws.
 #![tactic(auto)]
 
 ghost use Rattle.std.specs.Prelude.{ℕ, List, Bool, ◌≡◌, ◌+◌, ◌*◌, ◌/◌, ◌^◌, ◌<◌, ◌++◌, length};
@@ -9,10 +9,10 @@ pub fn number_of_its_digits()
     ensures { (size number : ℕ) → number < 2 ^ size → number_of (bits_of size number) ≡ number }
 {}
 
-/// Digits are those of the number that they spell, and it is no larger than so many digits can say.
+/// Digits are those of the number that they spell, which is below 2 to the power of their count.
 pub fn digits_of_their_number()
-    ensures digits { (word : List Bool) → bits_of (length word) (number_of word) ≡ word }
-    ensures below { (word : List Bool) → number_of word < 2 ^ length word }
+    ensures same { (digits : List Bool) → bits_of (length digits) (number_of digits) ≡ digits }
+    ensures below { (digits : List Bool) → number_of digits < 2 ^ length digits }
 {}
 
 /// A number has as many digits as were asked for, eight for each byte.

@@ -1,5 +1,6 @@
 -- The groups of the frame definition over a made frame's entries.
-use Rattle.std.proofs.Common.{◌≡◌, ℕ, zero, suc, ◌+◌, ◌-◌, ◌*◌, ◌/◌, ◌%◌, ◌<◌, ◌≤◌, min, nat_eq, ℤ, pos, true, false, List, [], ◌∷◌, length, map, Ok, refl, ap, ◌∙◌, arith}
+use Rattle.std.proofs.Common.{◌≡◌, ℕ, zero, suc, ◌+◌, ◌-◌, ◌*◌, ◌/◌, ◌%◌, ◌<◌, ◌≤◌, min, nat_eq, ℤ, pos, true, false}
+use Rattle.std.proofs.Common.{List, [], ◌∷◌, length, map, Ok, refl, ap, ◌∙◌, arith}
 use Rattle.std.specs.Prelude.{nat_le, nat_lt, ◌||◌, ◌+ℤ◌, ◌-ℤ◌, slice_index_or}
 use Rattle.std.specs.List.{range_with_len}
 use Rattle.std.proofs.lemmas.Bool.{le-leb, le-ltb, lt-ltb}
@@ -11,14 +12,26 @@ use Rattle.plane_view.specs.declared.Shape.{Shape}
 use Rattle.opcode_list.specs.Trims.{first_misfit, left_after}
 use Rattle.tiff_dirs.specs.Header.{open_of}
 use Rattle.tag_rules.specs.Opcodes.{opcodes_under}
-use Rattle.tag_rules.specs.Values.{Dirs, fractions_of, number_of, number_or, numbers_of, required_number_of, required_numbers_of}
-use Rattle.tag_rules.specs.declared.tags.Tag.TheVariants.{ActiveArea, AnalogBalance, AsShotNeutral, BlackLevel, BlackLevelDeltaH, BlackLevelDeltaV, BlackLevelRepeatDim, CameraCalibration1, CameraCalibration2, CfaLayout, CfaPlaneColor, ColorMatrix1, ColorMatrix2, DefaultCropOrigin, DefaultCropSize, DngBackwardVersion, ForwardMatrix1, ForwardMatrix2, ImageLength, ImageWidth, LinearizationTable, NewSubfileType, OpcodeList1, OpcodeList2, OpcodeList3, RowsPerStrip, SampleFormat, SamplesPerPixel, TileWidth}
-use Rattle.dng_tags.specs.Area.{active_of, crop_of, crop_rect, extent_of, has_pixels, held_within, large_enough, rest_of}
-use Rattle.dng_tags.specs.Black.{black_at, greatest, greatest_black, levels_of, levels_under, repeat_of, span_of, spanning, table_of, white_of}
+use Rattle.tag_rules.specs.Values.{Dirs, fractions_of, number_of, number_or, numbers_of, required_number_of}
+use Rattle.tag_rules.specs.Values.{required_numbers_of}
+use Rattle.tag_rules.specs.declared.tags.Tag.TheVariants.{ActiveArea, AnalogBalance, AsShotNeutral, BlackLevel}
+use Rattle.tag_rules.specs.declared.tags.Tag.TheVariants.{BlackLevelDeltaH, BlackLevelDeltaV, BlackLevelRepeatDim}
+use Rattle.tag_rules.specs.declared.tags.Tag.TheVariants.{CameraCalibration1, CameraCalibration2, CfaLayout}
+use Rattle.tag_rules.specs.declared.tags.Tag.TheVariants.{CfaPlaneColor, ColorMatrix1, ColorMatrix2, DefaultCropOrigin}
+use Rattle.tag_rules.specs.declared.tags.Tag.TheVariants.{DefaultCropSize, DngBackwardVersion, ForwardMatrix1}
+use Rattle.tag_rules.specs.declared.tags.Tag.TheVariants.{ForwardMatrix2, ImageLength, ImageWidth, LinearizationTable}
+use Rattle.tag_rules.specs.declared.tags.Tag.TheVariants.{NewSubfileType, OpcodeList1, OpcodeList2, OpcodeList3}
+use Rattle.tag_rules.specs.declared.tags.Tag.TheVariants.{RowsPerStrip, SampleFormat, SamplesPerPixel, TileWidth}
+use Rattle.dng_tags.specs.Area.{active_of, crop_of, crop_rect, extent_of, has_pixels, held_within, large_enough}
+use Rattle.dng_tags.specs.Area.{rest_of}
+use Rattle.dng_tags.specs.Black.{black_at, greatest, greatest_black, levels_of, levels_under, repeat_of, span_of}
+use Rattle.dng_tags.specs.Black.{spanning, table_of, white_of}
 use Rattle.dng_tags.specs.Colours.{analog_of, calibration_of, colour_of, gains_of, matrix_of}
-use Rattle.dng_tags.specs.Form.{depth_of, form_of, format_of, lossless_of, photometric_of, samples_per_pixel_of, shape_of, side_of}
+use Rattle.dng_tags.specs.Form.{depth_of, form_of, format_of, lossless_of, photometric_of, samples_per_pixel_of}
+use Rattle.dng_tags.specs.Form.{shape_of, side_of}
 use Rattle.dng_tags.specs.Frame.{frame_of, record_of}
-use Rattle.dng_tags.specs.Layout.{checked_layout, layout_of, parts, rect_at, segment_at, segment_count, segments_in, segments_of, strip_rows_of, strips_of}
+use Rattle.dng_tags.specs.Layout.{checked_layout, layout_of, parts, rect_at, segment_at, segment_count, segments_in}
+use Rattle.dng_tags.specs.Layout.{segments_of, strip_rows_of, strips_of}
 use Rattle.dng_tags.specs.Listed.{area_shape, coloured_shape, listed_of}
 use Rattle.dng_tags.specs.Origin.{needed_version_of, origin_of, raw_directory_of, subfile_type_at, tiff_of, version_of}
 use Rattle.dng_tags.specs.Pattern.{colours_of, has_plane_colours, has_square_layout, pattern_of, pattern_size_of}
@@ -31,12 +44,13 @@ use Rattle.frame_make.proofs.Reading as read
 use Rattle.frame_make.proofs.Reading.{HasEntries, absent, absent_field, absent_fractions}
 
 -- a length is one part of itself
-part_whole : (n : ℕ) → 1 ≤ n → parts n n ≡ 1
-part_whole n h =
+one_part : (n : ℕ) → 1 ≤ n → parts n n ≡ 1
+one_part n h =
     let split : n + (n - 1) ≡ 1 * n + (n - 1) = omega arith in
     ap (λ m. m / n) split ∙ div-mul-add 1 n (n - 1) (omega arith)
 
-rect_same : (top left bottom right h w : ℕ) → top ≡ 0 → left ≡ 0 → bottom ≡ h → right ≡ w → (let rect : Rect = record { top = top; left = left; bottom = bottom; right = right } in rect) ≡ whole_rect h w
+rect_same : (top left bottom right h w : ℕ) → top ≡ 0 → left ≡ 0 → bottom ≡ h → right ≡ w
+    → (let rect : Rect = record { top = top; left = left; bottom = bottom; right = right } in rect) ≡ whole_rect h w
 rect_same top left bottom right h w a b c d = cc
 
 -- an edge of a crop of all
@@ -66,7 +80,8 @@ span_is h w =
     let none = greatest_zero (λ i. black_at made_levels (i / w) (i % w)) 0 (h * w) (λ i. black_zero (i / w) (i % w)) in
     rw none refl
 
-module _ {bytes : List ℕ} {w h bits method count : ℕ} (e : HasEntries bytes w h bits method count) (sides : AreSides w h) where
+module _ {bytes : List ℕ} {w h bits method count : ℕ} (e : HasEntries bytes w h bits method count)
+    (sides : AreSides w h) where
   abbrev dirs : Dirs
   dirs = record { bytes = bytes; raw = 8 }
 
@@ -144,7 +159,8 @@ module _ {bytes : List ℕ} {w h bits method count : ℕ} (e : HasEntries bytes 
   unfolding shape_of
   told_shape = rw (width, height, area) refl
 
-  form : method < 65536 → (nat_eq method 1 || nat_eq method 7) ≡ true → 8 ≤ bits → bits ≤ 16 → form_of dirs ≡ Ok (record { lossless = nat_eq method 7; depth = bits; shape = shape })
+  form : method < 65536 → (nat_eq method 1 || nat_eq method 7) ≡ true → 8 ≤ bits → bits ≤ 16
+      → form_of dirs ≡ Ok (record { lossless = nat_eq method 7; depth = bits; shape = shape })
   unfolding form_of
   form small known low high = rw (photometric, lossless small known, samples, depth low high, format, told_shape) refl
 
@@ -168,10 +184,10 @@ module _ {bytes : List ℕ} {w h bits method count : ℕ} (e : HasEntries bytes 
       rw (read.offset_is e, strip_rows, read.count_is e small) refl
 
   across : parts w w ≡ 1
-  across = part_whole w (omega (arith, sides.some_cols))
+  across = one_part w (omega (arith, sides.some_cols))
 
   down : parts h h ≡ 1
-  down = part_whole h (omega (arith, sides.some_rows))
+  down = one_part h (omega (arith, sides.some_rows))
 
   one : segment_count shape cut ≡ 1
   one = rw (across, down) refl
@@ -192,7 +208,8 @@ module _ {bytes : List ℕ} {w h bits method count : ℕ} (e : HasEntries bytes 
   unfolding segment_at
   segment =
       let tall : h - 0 ≡ h = omega arith in
-      let with_rows : ℕ → Segment = λ n. record { at = 146; length = count; rect = whole_rect h w; full_rows = n; full_cols = w } in
+      let with_rows : ℕ → Segment =
+      λ n. record { at = 146; length = count; rect = whole_rect h w; full_rows = n; full_cols = w } in
       rw rect (ap with_rows tall)
 
   in_one : segments_in shape layout ≡ one_strip w h count ∷ []
@@ -208,7 +225,8 @@ module _ {bytes : List ℕ} {w h bits method count : ℕ} (e : HasEntries bytes 
   -- ---- the other groups
 
   told_pattern : pattern_of dirs ≡ Ok (0 ∷ 1 ∷ 1 ∷ 2 ∷ [])
-  unfolding pattern_of pattern_size_of colours_of has_plane_colours has_square_layout required_numbers_of numbers_of number_or number_of
+  unfolding pattern_of pattern_size_of colours_of has_plane_colours has_square_layout required_numbers_of numbers_of
+      number_or number_of
   told_pattern =
       rw (read.dims_are e, read.pattern_is e, absent e CfaPlaneColor refl, absent e CfaLayout refl) refl
 
@@ -298,11 +316,39 @@ module _ {bytes : List ℕ} {w h bits method count : ℕ} (e : HasEntries bytes 
   colour : colour_of dirs ≡ Ok made_colour
   unfolding colour_of matrix_of calibration_of analog_of gains_of fractions_of
   colour =
-      rw (e.first, absent_fractions e ColorMatrix1 refl, absent_fractions e ColorMatrix2 refl, absent_fractions e CameraCalibration1 refl, absent_fractions e CameraCalibration2 refl, absent_fractions e AnalogBalance refl, absent_fractions e AsShotNeutral refl, absent_fractions e ForwardMatrix1 refl, absent_fractions e ForwardMatrix2 refl) refl
+      rw (
+        e.first,
+        absent_fractions e ColorMatrix1 refl,
+        absent_fractions e ColorMatrix2 refl,
+        absent_fractions e CameraCalibration1 refl,
+        absent_fractions e CameraCalibration2 refl,
+        absent_fractions e AnalogBalance refl,
+        absent_fractions e AsShotNeutral refl,
+        absent_fractions e ForwardMatrix1 refl,
+        absent_fractions e ForwardMatrix2 refl,
+      ) refl
 
   -- ---- the whole record
 
-  pub accepted : method < 65536 → (nat_eq method 1 || nat_eq method 7) ≡ true → 8 ≤ bits → bits ≤ 16 → count < 4294967296 → 146 + count ≤ length bytes → frame_of bytes ≡ Ok (one_strip_frame w h bits (nat_eq method 7) count)
+  pub accepted : method < 65536 → (nat_eq method 1 || nat_eq method 7) ≡ true → 8 ≤ bits → bits ≤ 16
+      → count < 4294967296 → 146 + count ≤ length bytes
+      → frame_of bytes ≡ Ok (one_strip_frame w h bits (nat_eq method 7) count)
   unfolding frame_of record_of
   accepted method_small known low high small inside =
-      rw (tiff, origin, form method_small known low high, segments small inside, told_pattern, first_list shape, active, levels bits, whole, second_list shape, large, third_list (coloured_shape shape), crop, colour, e.order) refl
+      rw (
+        tiff,
+        origin,
+        form method_small known low high,
+        segments small inside,
+        told_pattern,
+        first_list shape,
+        active,
+        levels bits,
+        whole,
+        second_list shape,
+        large,
+        third_list (coloured_shape shape),
+        crop,
+        colour,
+        e.order,
+      ) refl

@@ -4,18 +4,20 @@ use Rattle.std.specs.Int.{byte_at}
 use Rattle.std.specs.Prelude.{nat_le}
 use Rattle.std.proofs.lemmas.Bool.{le-leb}
 use Rattle.tiff_dirs.specs.Entries.{entries, slot_at, value_place}
-use Rattle.tiff_dirs.specs.Header.{directory_fits, entry_count, first_directory, has_header, is_big, is_little, order_of}
+use Rattle.tiff_dirs.specs.Header.{directory_fits, entry_count, first_directory, has_header, is_big, is_little}
+use Rattle.tiff_dirs.specs.Header.{order_of}
 use Rattle.tiff_dirs.specs.Kinds.{size_of}
 use Rattle.tiff_dirs.specs.Numbers.{number_at}
 use Rattle.tiff_dirs.specs.declared.Order.TheVariants.{Little}
 use Rattle.tiff_write.specs.Fields.{value_bytes, value_size}
-use Rattle.tiff_write.specs.Files.{directories_bytes, directory_bytes, directory_offsets, directory_size, entries_bytes, entry_bytes, far_bytes, far_size, file_bytes, header_bytes, slot_bytes}
+use Rattle.tiff_write.specs.Files.{directories_bytes, directory_bytes, directory_offsets, directory_size, entries_bytes}
+use Rattle.tiff_write.specs.Files.{entry_bytes, far_bytes, far_size, file_bytes, header_bytes, slot_bytes}
 use Rattle.frame_make.specs.Made.{fields_of}
 use Rattle.frame_make.proofs.Reading.{HasEntries, slots}
 
 -- the header, the count, eleven entries, no next directory
-abbrev pub front : (w h bits method count : ℕ) → List ℕ
-front w h bits method count =
+abbrev pub before_strip : (w h bits method count : ℕ) → List ℕ
+before_strip w h bits method count =
     0x49 ∷ 0x49 ∷ 42 ∷ 0 ∷ 8 ∷ 0 ∷ 0 ∷ 0 ∷ 11 ∷ 0
     ∷ 0 ∷ 1 ∷ 3 ∷ 0 ∷ 1 ∷ 0 ∷ 0 ∷ 0 ∷ byte_at 0 w ∷ byte_at 1 w ∷ 0 ∷ 0
     ∷ 1 ∷ 1 ∷ 3 ∷ 0 ∷ 1 ∷ 0 ∷ 0 ∷ 0 ∷ byte_at 0 h ∷ byte_at 1 h ∷ 0 ∷ 0
@@ -30,16 +32,19 @@ front w h bits method count =
     ∷ 0x1D ∷ 0xC6 ∷ 3 ∷ 0 ∷ 1 ∷ 0 ∷ 0 ∷ 0 ∷ 0xFF ∷ 0x0F ∷ 0 ∷ 0
     ∷ 0 ∷ 0 ∷ 0 ∷ 0 ∷ []
 
-pub file_is : (w h bits method count : ℕ) (strip : List ℕ) → file_bytes Little (fields_of w h bits method count ∷ []) strip ≡ front w h bits method count ++ strip
-unfolding file_bytes fields_of header_bytes directories_bytes directory_bytes directory_offsets directory_size entries_bytes entry_bytes slot_bytes far_bytes far_size value_bytes value_size
+pub file_is : (w h bits method count : ℕ) (strip : List ℕ)
+    → file_bytes Little (fields_of w h bits method count ∷ []) strip ≡ before_strip w h bits method count ++ strip
+unfolding file_bytes fields_of header_bytes directories_bytes directory_bytes directory_offsets directory_size
+    entries_bytes entry_bytes slot_bytes far_bytes far_size value_bytes value_size
 file_is w h bits method count strip = refl
 
-pub length-front : (w h bits method count : ℕ) (strip : List ℕ) → length (front w h bits method count ++ strip) ≡ 146 + length strip
-length-front w h bits method count strip = length-append (front w h bits method count) strip
+pub length-before : (w h bits method count : ℕ) (strip : List ℕ)
+    → length (before_strip w h bits method count ++ strip) ≡ 146 + length strip
+length-before w h bits method count strip = length-append (before_strip w h bits method count) strip
 
 module _ (w h bits method count : ℕ) (strip : List ℕ) where
   abbrev bytes : List ℕ
-  bytes = front w h bits method count ++ strip
+  bytes = before_strip w h bits method count ++ strip
 
   order : order_of bytes ≡ Little
   unfolding order_of is_big
@@ -47,7 +52,8 @@ module _ (w h bits method count : ℕ) (strip : List ℕ) where
 
   header : has_header bytes ≡ true
   unfolding has_header is_little is_big
-  header = let long : nat_le 8 (length bytes) ≡ true = le-leb 8 (length bytes) (omega (arith, length-front w h bits method count strip)) in rw long refl
+  header = let long : nat_le 8 (length bytes) ≡ true =
+      le-leb 8 (length bytes) (omega (arith, length-before w h bits method count strip)) in rw long refl
 
   first : first_directory bytes ≡ 8
   unfolding first_directory order_of is_big number_at
@@ -55,7 +61,7 @@ module _ (w h bits method count : ℕ) (strip : List ℕ) where
 
   fits : directory_fits bytes 8 ≡ true
   unfolding directory_fits entry_count order_of is_big number_at
-  fits = le-leb 142 (length bytes) (omega (arith, length-front w h bits method count strip))
+  fits = le-leb 142 (length bytes) (omega (arith, length-before w h bits method count strip))
 
   listed : entries bytes 8 ≡ slots
   unfolding entries slot_at value_place size_of entry_count order_of is_big number_at
@@ -68,7 +74,7 @@ module _ (w h bits method count : ℕ) (strip : List ℕ) where
     first = first;
     fits = fits;
     listed = listed;
-    long = omega (arith, length-front w h bits method count strip);
+    long = omega (arith, length-before w h bits method count strip);
     width = refl;
     height = refl;
     depth = refl;

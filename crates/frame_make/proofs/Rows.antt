@@ -1,5 +1,6 @@
 -- Rows one after the other, and the samples of a made frame.
-use Rattle.std.proofs.Common.{◌≡◌, ℕ, zero, suc, ◌+◌, ◌*◌, ◌<◌, List, [], ◌∷◌, ◌++◌, All, length, length-append, get_or, take, drop, sym, ap, ◌∙◌, arith}
+use Rattle.std.proofs.Common.{◌≡◌, ℕ, zero, suc, ◌+◌, ◌*◌, ◌<◌, List, [], ◌∷◌, ◌++◌, All, length, length-append, get_or}
+use Rattle.std.proofs.Common.{take, drop, sym, ap, ◌∙◌, arith}
 use Rattle.std.specs.List.{flat_map, range_with_len}
 use Rattle.std.proofs.lemmas.List.{append-nil, drop-drop, drop_at, get_or-drop, get_or-take, map-id, take_at}
 use Rattle.std.proofs.lemmas.List.Concat.{flat_map-append}
@@ -11,17 +12,20 @@ use Rattle.frame_make.specs.Made.{made_row, made_sample, made_samples}
 one_more : (count : ℕ) → range_with_len 0 (count + 1) ≡ range_with_len 0 count ++ count ∷ []
 one_more count =
     let same : ℕ → ℕ = λ n. n in
-    sym (map-id (range_with_len 0 (count + 1))) ∙ map-range_with_len_more same 0 count count (omega arith) ∙ ap (λ x. x ++ count ∷ []) (map-id (range_with_len 0 count))
+    sym (map-id (range_with_len 0 (count + 1))) ∙ map-range_with_len_more same 0 count count (omega arith)
+    ∙ ap (λ x. x ++ count ∷ []) (map-id (range_with_len 0 count))
 
 -- one more row
-pub rows_more : (row : ℕ → List ℕ) (count : ℕ) → flat_map row (range_with_len 0 (count + 1)) ≡ flat_map row (range_with_len 0 count) ++ row count
-rows_more row count =
+pub one_row_more : (row : ℕ → List ℕ) (count : ℕ)
+    → flat_map row (range_with_len 0 (count + 1)) ≡ flat_map row (range_with_len 0 count) ++ row count
+one_row_more row count =
     ap (flat_map row) (one_more count)
     ∙ flat_map-append row (range_with_len 0 count) (count ∷ [])
     ∙ ap (λ x. flat_map row (range_with_len 0 count) ++ x) (append-nil (row count))
 
 -- rows of n items
-pub length-rows : (row : ℕ → List ℕ) (n a count : ℕ) → ((k : ℕ) → length (row k) ≡ n) → length (flat_map row (range_with_len a count)) ≡ count * n
+pub length-rows : (row : ℕ → List ℕ) (n a count : ℕ) → ((k : ℕ) → length (row k) ≡ n)
+    → length (flat_map row (range_with_len a count)) ≡ count * n
 length-rows row n a zero long = omega arith
 length-rows row n a (suc count) long =
     let here = long a in
@@ -29,7 +33,8 @@ length-rows row n a (suc count) long =
     omega (arith, length-append (row a) (flat_map row (range_with_len (a + 1) count)))
 
 -- part k of rows is row k
-pub part_rows : (row : ℕ → List ℕ) (n a count k : ℕ) → ((i : ℕ) → length (row i) ≡ n) → k < count → part_at n k (flat_map row (range_with_len a count)) ≡ row (a + k)
+pub part_rows : (row : ℕ → List ℕ) (n a count k : ℕ) → ((i : ℕ) → length (row i) ≡ n) → k < count
+    → part_at n k (flat_map row (range_with_len a count)) ≡ row (a + k)
 part_rows row n a zero k long h = absurd (omega arith)
 part_rows row n a (suc count) zero long h =
     let none : zero * n ≡ 0 = omega arith in
@@ -59,17 +64,18 @@ pub row_sample_is : (number w r c : ℕ) → c < w → get_or (made_row number w
 unfolding made_row
 row_sample_is number w r c h = get_or-map-range_with_len (made_sample number r) 0 w c c 0 h (omega arith)
 
-pub part_is : (number w h r : ℕ) → r < h → part_at w r (made_samples number w h) ≡ made_row number w r
+pub row_part_is : (number w h r : ℕ) → r < h → part_at w r (made_samples number w h) ≡ made_row number w r
 unfolding made_samples
-part_is number w h r within =
+row_part_is number w h r within =
     part_rows (made_row number w) w 0 h r (length-made_row number w) within ∙ ap (made_row number w) (omega arith)
 
-pub sample_is : (number w h r c : ℕ) → r < h → c < w → get_or (made_samples number w h) (r * w + c) 0 ≡ made_sample number r c
+pub sample_is : (number w h r c : ℕ) → r < h → c < w
+    → get_or (made_samples number w h) (r * w + c) 0 ≡ made_sample number r c
 sample_is number w h r c row col =
     let all = made_samples number w h in
     sym (get_or-drop (r * w) all c 0)
     ∙ sym (get_or-take w (drop (r * w) all) c 0 col)
-    ∙ ap (λ xs. get_or xs c 0) (part_is number w h r row)
+    ∙ ap (λ xs. get_or xs c 0) (row_part_is number w h r row)
     ∙ row_sample_is number w r c col
 
 -- samples have 12 bits
@@ -86,7 +92,8 @@ small_row number w r =
 small_rows : (number w a count : ℕ) → All (λ x. x < 4096) (flat_map (made_row number w) (range_with_len a count))
 small_rows number w a zero = All-nil (λ x. x < 4096)
 small_rows number w a (suc count) =
-    All-append (λ x. x < 4096) (made_row number w a) (flat_map (made_row number w) (range_with_len (a + 1) count)) (small_row number w a) (small_rows number w (a + 1) count)
+    All-append (λ x. x < 4096) (made_row number w a) (flat_map (made_row number w) (range_with_len (a + 1) count))
+    (small_row number w a) (small_rows number w (a + 1) count)
 
 pub small_samples : (number w h : ℕ) → All (λ x. x < 4096) (made_samples number w h)
 unfolding made_samples

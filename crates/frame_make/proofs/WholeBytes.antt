@@ -1,5 +1,7 @@
--- Digits as whole bytes, and back.
-use Rattle.std.proofs.Common.{◌≡◌, ℕ, zero, suc, ◌+◌, ◌-◌, ◌*◌, ◌/◌, ◌%◌, ◌^◌, ◌<◌, ◌≤◌, Bool, List, [], ◌∷◌, ◌++◌, All, length, map, replicate, take, drop, refl, sym, ap, ◌∙◌, subst, arith, append_assoc, length-append}
+-- Digits as whole bytes, and the digits of such bytes.
+use Rattle.std.proofs.Common.{◌≡◌, ℕ, zero, suc, ◌+◌, ◌-◌, ◌*◌, ◌/◌, ◌%◌, ◌^◌, ◌<◌, ◌≤◌, Bool, List, [], ◌∷◌, ◌++◌, All}
+use Rattle.std.proofs.Common.{length, map, replicate, take, drop, refl, sym, ap, ◌∙◌, subst, arith, append_assoc}
+use Rattle.std.proofs.Common.{length-append}
 use Rattle.std.specs.List.{range_with_len}
 use Rattle.std.proofs.lemmas.List.{append-nil, drop_at, length-replicate, take-replicate, take_at}
 use Rattle.std.proofs.lemmas.List.Concat.{flat_map-append}
@@ -7,7 +9,8 @@ use Rattle.std.proofs.lemmas.List.Elements.{All-append, All-from_get_or, All-hea
 use Rattle.std.proofs.lemmas.List.FromFn.{get_or-map-range_with_len, length-map-range_with_len, map-range_with_len_more}
 use Rattle.std.proofs.Math.Seq.{take-add}
 use Rattle.binary_digits.specs.Digits.{bits_of, byte_bits, number_of}
-use Rattle.binary_digits.proofs.DigitLemmas.{append_same_size, bits_of-number_of, length-bits_of, length-byte_bits, number_of-lt, same_number}
+use Rattle.binary_digits.proofs.DigitLemmas.{append_same_size, byte_bits-append, bits_of-number_of, length-bits_of}
+use Rattle.binary_digits.proofs.DigitLemmas.{length-byte_bits, number_of-lt, same_number}
 use Rattle.strip_unpack.specs.Samples.{part_at}
 use Rattle.strip_unpack.proofs.Rows.{length_part}
 use Rattle.frame_make.specs.Made.{whole_bytes}
@@ -20,7 +23,8 @@ AreBytes bytes = All (λ byte. byte < 256) bytes
 abbrev byte_at : List Bool → ℕ → ℕ
 byte_at bits k = number_of (part_at 8 k bits)
 
-byte_digits : (bits : List Bool) (count n : ℕ) → count * 8 ≤ length bits → n < count → bits_of 8 (byte_at bits n) ≡ part_at 8 n bits
+byte_digits : (bits : List Bool) (count n : ℕ) → count * 8 ≤ length bits → n < count
+    → bits_of 8 (byte_at bits n) ≡ part_at 8 n bits
 byte_digits bits count n long h =
     let part = part_at 8 n bits in
     let size : length part ≡ 8 = length_part 8 n count bits h long in
@@ -34,14 +38,16 @@ byte_small bits count n long h =
     subst P size (number_of-lt part)
 
 -- the digits of the first bytes
-front : (bits : List Bool) (count : ℕ) → count * 8 ≤ length bits → (n : ℕ) → n ≤ count → byte_bits (map (byte_at bits) (range_with_len 0 n)) ≡ take (n * 8) bits
-front bits count long zero h = refl
-front bits count long (suc n) h =
+first_bytes : (bits : List Bool) (count : ℕ) → count * 8 ≤ length bits → (n : ℕ) → n ≤ count
+    → byte_bits (map (byte_at bits) (range_with_len 0 n)) ≡ take (n * 8) bits
+first_bytes bits count long zero h = refl
+first_bytes bits count long (suc n) h =
     let g = byte_at bits in
     let next : suc n ≡ n + 1 = omega arith in
     let more : suc n * 8 ≡ n * 8 + 8 = omega arith in
-    let before = front bits count long n (omega arith) in
-    let here : bits_of 8 (g n) ++ [] ≡ part_at 8 n bits = append-nil (bits_of 8 (g n)) ∙ byte_digits bits count n long h in
+    let before = first_bytes bits count long n (omega arith) in
+    let here : bits_of 8 (g n) ++ [] ≡ part_at 8 n bits =
+    append-nil (bits_of 8 (g n)) ∙ byte_digits bits count n long h in
     ap (λ k. byte_bits (map g (range_with_len 0 k))) next
     ∙ ap byte_bits (map-range_with_len_more g 0 n n (omega arith))
     ∙ flat_map-append (bits_of 8) (map g (range_with_len 0 n)) (g n ∷ [])
@@ -61,8 +67,8 @@ pub length-whole : (fill : Bool) (bits : List Bool) → length (whole_bytes fill
 unfolding whole_bytes
 length-whole fill bits = length-map-range_with_len (byte_at (bits ++ replicate 7 fill)) 0 (byte_count (length bits))
 
-enough : (fill : Bool) (bits : List Bool) → byte_count (length bits) * 8 ≤ length (bits ++ replicate 7 fill)
-enough fill bits = omega (arith, length-append bits (replicate 7 fill), length-replicate 7 fill)
+padded_enough : (fill : Bool) (bits : List Bool) → byte_count (length bits) * 8 ≤ length (bits ++ replicate 7 fill)
+padded_enough fill bits = omega (arith, length-append bits (replicate 7 fill), length-replicate 7 fill)
 
 pub whole_small : (fill : Bool) (bits : List Bool) → AreBytes (whole_bytes fill bits)
 unfolding whole_bytes
@@ -73,10 +79,12 @@ whole_small fill bits =
     let size = length-map-range_with_len (byte_at padded) 0 count in
     All-from_get_or (λ byte. byte < 256) all 0 (λ k h.
     let within : k < count = omega arith in
-    rw (get_or-map-range_with_len (byte_at padded) 0 count k k 0 within (omega arith)) (byte_small padded count k (enough fill bits) within))
+    rw (get_or-map-range_with_len (byte_at padded) 0 count k k 0 within (omega arith))
+    (byte_small padded count k (padded_enough fill bits) within))
 
 -- the digits of whole bytes
-pub whole_digits : (fill : Bool) (bits : List Bool) → byte_bits (whole_bytes fill bits) ≡ bits ++ replicate (lacking (length bits)) fill
+pub whole_digits : (fill : Bool) (bits : List Bool)
+    → byte_bits (whole_bytes fill bits) ≡ bits ++ replicate (lacking (length bits)) fill
 unfolding whole_bytes
 whole_digits fill bits =
     let padded = bits ++ replicate 7 fill in
@@ -85,7 +93,7 @@ whole_digits fill bits =
     let rest = lacking size in
     let split : count * 8 ≡ size + rest = omega arith in
     let few : rest ≤ 7 = omega arith in
-    front padded count (enough fill bits) count (omega arith)
+    first_bytes padded count (padded_enough fill bits) count (omega arith)
     ∙ ap (λ k. take k padded) split
     ∙ take-add size rest padded
     ∙ ap (λ xs. xs ++ take rest (drop size padded)) (take_at bits (replicate 7 fill) size refl)
@@ -93,38 +101,45 @@ whole_digits fill bits =
     ∙ ap (λ xs. bits ++ xs) (take-replicate rest 7 fill few)
 
 -- bytes are told by their digits
-pub same_bytes : (xs ys : List ℕ) → AreBytes xs → AreBytes ys → length xs ≡ length ys → byte_bits xs ≡ byte_bits ys → xs ≡ ys
+pub same_bytes : (xs ys : List ℕ) → AreBytes xs → AreBytes ys → length xs ≡ length ys → byte_bits xs ≡ byte_bits ys
+    → xs ≡ ys
 same_bytes [] [] hx hy long e = refl
 same_bytes [] (y ∷ ys) hx hy long e = absurd (omega arith)
 same_bytes (x ∷ xs) [] hx hy long e = absurd (omega arith)
 same_bytes (x ∷ xs) (y ∷ ys) hx hy long e =
     let P : ℕ → Type 0 = λ z. z < 256 in
-    let split = append_same_size (bits_of 8 x) (bits_of 8 y) (byte_bits xs) (byte_bits ys) e (length-bits_of 8 x ∙ sym (length-bits_of 8 y)) in
+    let split = append_same_size (bits_of 8 x) (bits_of 8 y) (byte_bits xs) (byte_bits ys) e
+    (length-bits_of 8 x ∙ sym (length-bits_of 8 y)) in
     let first = same_number 8 x y (All-head P x xs hx) (All-head P y ys hy) split.0 in
     let rest = same_bytes xs ys (All-tail P x xs hx) (All-tail P y ys hy) (omega arith) split.1 in
     cc
 
 -- bytes whose digits are these and fewer than eight of one kind are the whole bytes
-pub whole_alone : (fill : Bool) (bits : List Bool) (bytes : List ℕ) (n : ℕ) → n < 8 → AreBytes bytes → byte_bits bytes ≡ bits ++ replicate n fill → bytes ≡ whole_bytes fill bits
+pub whole_alone : (fill : Bool) (bits : List Bool) (bytes : List ℕ) (n : ℕ) → n < 8 → AreBytes bytes
+    → byte_bits bytes ≡ bits ++ replicate n fill → bytes ≡ whole_bytes fill bits
 whole_alone fill bits bytes n few small digits =
     let size = length bits in
-    let one : 8 * length bytes ≡ size + n = sym (length-byte_bits bytes) ∙ ap length digits ∙ length-append bits (replicate n fill) ∙ ap (λ k. size + k) (length-replicate n fill) in
+    let one : 8 * length bytes ≡ size + n =
+    sym (length-byte_bits bytes) ∙ ap length digits ∙ length-append bits (replicate n fill)
+    ∙ ap (λ k. size + k) (length-replicate n fill) in
     let other = length-whole fill bits in
     let lack : n ≡ lacking size = omega arith in
-    let same : byte_bits bytes ≡ byte_bits (whole_bytes fill bits) = digits ∙ ap (λ k. bits ++ replicate k fill) lack ∙ sym (whole_digits fill bits) in
+    let same : byte_bits bytes ≡ byte_bits (whole_bytes fill bits) =
+    digits ∙ ap (λ k. bits ++ replicate k fill) lack ∙ sym (whole_digits fill bits) in
     same_bytes bytes (whole_bytes fill bits) small (whole_small fill bits) (omega arith) same
 
-pub byte_bits-append : (xs ys : List ℕ) → byte_bits (xs ++ ys) ≡ byte_bits xs ++ byte_bits ys
-byte_bits-append xs ys = flat_map-append (bits_of 8) xs ys
-
 -- bytes behind those of digits that fill them
-pub whole_more : (fill : Bool) (bits more : List Bool) (bytes : List ℕ) (n : ℕ) → length bits % 8 ≡ 0 → n < 8 → AreBytes bytes → byte_bits bytes ≡ more ++ replicate n fill → whole_bytes fill bits ++ bytes ≡ whole_bytes fill (bits ++ more)
+pub whole_more : (fill : Bool) (bits more : List Bool) (bytes : List ℕ) (n : ℕ) → length bits % 8 ≡ 0 → n < 8
+    → AreBytes bytes → byte_bits bytes ≡ more ++ replicate n fill
+    → whole_bytes fill bits ++ bytes ≡ whole_bytes fill (bits ++ more)
 whole_more fill bits more bytes n full few small digits =
     let none : lacking (length bits) ≡ 0 = omega arith in
-    let first : byte_bits (whole_bytes fill bits) ≡ bits = whole_digits fill bits ∙ ap (λ k. bits ++ replicate k fill) none ∙ append-nil bits in
+    let first : byte_bits (whole_bytes fill bits) ≡ bits =
+    whole_digits fill bits ∙ ap (λ k. bits ++ replicate k fill) none ∙ append-nil bits in
     let both : byte_bits (whole_bytes fill bits ++ bytes) ≡ (bits ++ more) ++ replicate n fill =
     byte_bits-append (whole_bytes fill bits) bytes
     ∙ ap (λ xs. xs ++ byte_bits bytes) first
     ∙ ap (λ xs. bits ++ xs) digits
     ∙ sym (append_assoc bits more (replicate n fill)) in
-    whole_alone fill (bits ++ more) (whole_bytes fill bits ++ bytes) n few (All-append (λ byte. byte < 256) (whole_bytes fill bits) bytes (whole_small fill bits) small) both
+    whole_alone fill (bits ++ more) (whole_bytes fill bits ++ bytes) n few
+    (All-append (λ byte. byte < 256) (whole_bytes fill bits) bytes (whole_small fill bits) small) both

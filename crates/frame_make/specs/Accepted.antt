@@ -1,4 +1,4 @@
--- What the frame definition makes of a made frame.
+-- What the frame definition makes of a made frame: this project's own choice of one.
 use Rattle.std.specs.Prelude.{ℕ, ◌*◌, ◌^◌, ◌≤◌, Bool, true, false, pos, ℤ, List, [], ◌∷◌, length, None}
 use Rattle.plane_view.specs.Plane.{Plane, plane_of}
 use Rattle.plane_view.specs.Rectangles.{whole_rect}

@@ -1,5 +1,5 @@
--- Made frames: their samples, their strip in three forms, the whole file. The samples and the choice of entries are this
--- project's own; the entries are those of TIFF 6.0, section 8, TIFF/EP and DNG 1.6, chapter 4.
+-- Made frames: their samples, their strip in three forms, the whole file. The samples and the choice of entries are
+-- this project's own; the entries are those of TIFF 6.0, section 8, TIFF/EP and DNG 1.6, chapter 4.
 use Rattle.std.specs.Prelude.{ℕ, ◌+◌, ◌*◌, ◌/◌, ◌%◌, Bool, true, false, List, [], ◌∷◌, ◌++◌, length, map, replicate}
 use Rattle.std.specs.List.{flat_map, range_with_len}
 use Rattle.std.specs.Option.{option_map_or}
@@ -40,7 +40,8 @@ packed_row samples = whole_bytes false (flat_map (bits_of 12) samples)
 -- the bits of samples of 12 bits in lines of w, by predictor 1
 unfoldable pub stream_bits : (w h : ℕ) → List ℕ → List Bool
 stream_bits w h samples =
-    option_map_or (λ predictor. sample_bits (written_scan 12 h w predictor []) samples (length samples)) (result_ok (predictor_of 1)) []
+    option_map_or (λ predictor. sample_bits (written_scan 12 h w predictor []) samples (length samples))
+    (result_ok (predictor_of 1)) []
 
 -- the encoder's stream of them
 unfoldable pub stream_of : (w h : ℕ) → List ℕ → List ℕ

@@ -10,13 +10,13 @@ use std::alloc::{AllocError, Global};
 use tiff_dirs::Order;
 use tiff_write::{Field, file_bytes};
 
-/// The file of a frame of w columns and h rows, whose sample at row r, column c is `(number + 37 * r + 101 * c + r * c) %
-/// 4096`: a directory of 11 entries behind the header, in the order II, and one strip. It has at most 2^28 bytes, and is
-/// accepted (`made_is_accepted`).
+/// The file of a frame of w columns and h rows, whose sample at row r, column c is
+/// `(number + 37 * r + 101 * c + r * c) % 4096`: a directory of 11 entries behind the header, in the order II, and one
+/// strip. It has at most 2^28 bytes, and is accepted (`made_is_accepted`).
 ///
 /// # Errors
 ///
-/// `AllocError` where there is no memory.
+/// `AllocError` when out of memory.
 #[tactic(auto, unfolding(crate::specs::Made::made_bytes))]
 pub fn make_frame(
     alloc: Global,
@@ -59,7 +59,8 @@ fn made_fields(
 /// The size and the form of the image.
 fn image_fields(alloc: Global, w: u16, h: u16, kind: Make) -> Result<Vec<Field>, AllocError>
     ensures { IfOk result (λ fields. fields.items
-        ≡ shorts 256 (w ∷ []) ∷ shorts 257 (h ∷ []) ∷ shorts 258 (depth_of kind ∷ []) ∷ shorts 259 (compression_of kind ∷ [])
+        ≡ shorts 256 (w ∷ []) ∷ shorts 257 (h ∷ []) ∷ shorts 258 (depth_of kind ∷ [])
+        ∷ shorts 259 (compression_of kind ∷ [])
         ∷ shorts 262 (32803 ∷ []) ∷ []) }
 {
     let fields = vec![in alloc;

@@ -1,5 +1,5 @@
-//! A frame's first bytes, typed from the tables of TIFF 6.0 and DNG 1.6, a packed row computed by hand, and small frames
-//! that are read back.
+//! A frame's first bytes, typed from the tables of TIFF 6.0 and DNG 1.6, a packed row computed by hand, and small
+//! frames that are read back.
 ghost use Rattle.std.specs.Prelude.{◌≡◌, ◌≤◌, ◌<◌, ◌^◌, length};
 
 use crate::{Make, make_frame};

@@ -1,5 +1,6 @@
 pub mod DataLemmas
 pub mod DecodeLemmas
+mod Examples
 pub mod OrderLemmas
 pub mod ShortLemmas
 pub mod SpellLemmas

@@ -1,12 +1,14 @@
 -- Data bits, and the differences that they spell (ITU-T T.81, Annex H.1.2 and F.2.2).
-use Rattle.std.specs.Prelude.{◌≡◌, ℕ, suc, ◌-◌, ◌*◌, ◌^◌, ◌<◌, ◌≤◌, ◌%◌, unsigned_abs, replicate, map, slice_index_or, Bool, false, List, [], ◌∷◌, ◌++◌, length, ◌==◌, nat_lt, if◌then◌else◌, Contains, ℤ, pos, negsuc, ◌-ℤ◌, ◌⊎◌, refl}
+use Rattle.std.specs.Prelude.{◌≡◌, ℕ, suc, ◌-◌, ◌*◌, ◌^◌, ◌<◌, ◌%◌, unsigned_abs, map, slice_index_or, Bool, List, []}
+use Rattle.std.specs.Prelude.{◌∷◌, ◌++◌, length, ◌==◌, nat_lt, if◌then◌else◌, Contains, ℤ, pos, ◌-ℤ◌, ◌⊎◌}
 use Rattle.std.specs.Int.{int_rem_euclid}
 use Rattle.binary_digits.specs.Digits.{bits_of, byte_bits}
 use Rattle.ljpeg_huffman.specs.declared.bits.BitFault.{BitFault}
 use Rattle.ljpeg_huffman.specs.declared.bits.BitFault.TheVariants.{Ended, NoCode}
 use Rattle.ljpeg_huffman.specs.Words.{Table, IsPrefix}
 
--- The bytes of the data: a zero behind an FF is stuffed and taken out. An FF that no zero follows ends them (T.81, F.1.2.3 and B.1.1.5).
+-- The bytes of the data: a zero behind an FF is stuffed and taken out. An FF that no zero follows ends them (T.81,
+-- F.1.2.3 and B.1.1.5).
 unfoldable pub unstuffed : List ℕ → List ℕ
 unstuffed [] = []
 unstuffed (byte ∷ []) = if byte == 255 then [] else byte ∷ []
@@ -17,10 +19,6 @@ unstuffed (byte ∷ next ∷ bytes) =
 unfoldable pub data_bits : List ℕ → List Bool
 data_bits bytes = byte_bits (unstuffed bytes)
 
--- The bits that are left where some are held, in the lowest bits of a word, before those of the bytes.
-unfoldable pub bits_left : ℕ → ℕ → List ℕ → List Bool
-bits_left held word bytes = bits_of held word ++ data_bits bytes
-
 -- How many further bits follow a category's code word: none follow category 16 (T.81, H.1.2.2, table H.2).
 abbrev pub further_bits : ℕ → ℕ
 further_bits category = if category == 16 then 0 else category
@@ -29,7 +27,8 @@ further_bits category = if category == 16 then 0 else category
 -- negative (T.81, H.1.2.2 and figure F.12). At category 0 it is 0.
 abbrev pub difference : ℕ → ℕ → ℤ
 difference category extra =
-    if category == 16 then pos 32768 else (if nat_lt (2 * extra) (2 ^ category) then pos extra -ℤ pos (2 ^ category - 1) else pos extra)
+    if category == 16 then pos 32768
+    else (if nat_lt (2 * extra) (2 ^ category) then pos extra -ℤ pos (2 ^ category - 1) else pos extra)
 
 -- The bits are one code word of the table and its further bits, and stand for this difference.
 pub record SpellsOne (table : Table) (bits : List Bool) (value : ℤ) : Type 0 where
@@ -45,7 +44,8 @@ pub record SpellsOne (table : Table) (bits : List Bool) (value : ℤ) : Type 0 w
 abbrev pub Spells : (ℕ → Table) → List Bool → List ℤ → Type 0
 Spells tables bits [] = bits ≡ []
 Spells tables bits (value ∷ values) =
-    (first : List Bool) × (rest : List Bool) × (bits ≡ first ++ rest) × SpellsOne (tables 0) first value × Spells (λ place. tables (suc place)) rest values
+    (first : List Bool) × (rest : List Bool) × (bits ≡ first ++ rest) × SpellsOne (tables 0) first value
+    × Spells (λ place. tables (suc place)) rest values
 
 -- Some code word is a prefix of the bits.
 abbrev pub BeginsWithCode : Table → List Bool → Type 0
@@ -54,12 +54,14 @@ BeginsWithCode table bits = (word : List Bool) × (category : ℕ) × Contains t
 -- The bits are a proper prefix of some code word.
 abbrev pub IsCutCode : Table → List Bool → Type 0
 IsCutCode table bits =
-    (word : List Bool) × (category : ℕ) × Contains table (word, category) × ((bit : Bool) × (rest : List Bool) × (word ≡ bits ++ bit ∷ rest))
+    (word : List Bool) × (category : ℕ) × Contains table (word, category)
+    × ((bit : Bool) × (rest : List Bool) × (word ≡ bits ++ bit ∷ rest))
 
 -- The bits begin with a code word, and too few are left for its further bits.
 abbrev pub LacksFurtherBits : Table → List Bool → Type 0
 LacksFurtherBits table bits =
-    (word : List Bool) × (category : ℕ) × Contains table (word, category) × ((rest : List Bool) × (bits ≡ word ++ rest) × (length rest < further_bits category))
+    (word : List Bool) × (category : ℕ) × Contains table (word, category)
+    × ((rest : List Bool) × (bits ≡ word ++ rest) × (length rest < further_bits category))
 
 -- The bits end within a difference: in its code word, or in its further bits.
 abbrev pub EndsWithin : Table → List Bool → Type 0
@@ -74,11 +76,11 @@ abbrev pub IsRefused : Table → List Bool → BitFault → Type 0
 IsRefused table bits Ended = EndsWithin table bits
 IsRefused table bits NoCode = HasNoCode table bits
 
--- a number modulo 2^16, as differences are meant (T.81, H.1.2.1)
+-- A number modulo 2^16, as differences are meant (T.81, H.1.2.1).
 abbrev pub modulo : ℤ → ℕ
 modulo number = unsigned_abs (int_rem_euclid number (pos (2 ^ 16)))
 
--- the table of a place where tables take turns
+-- The table of a place where tables take turns.
 abbrev pub by_turns : List Table → ℕ → Table
 by_turns tables place = slice_index_or tables (place % length tables) []
 
@@ -99,18 +101,3 @@ pub record StopsShort (tables : ℕ → Table) (bits : List Bool) (count : ℕ) 
   pub spelled : Spells tables taken values
   pub few : length values < count
   pub refused : IsRefused (tables (length values)) rest fault
-
--- A window has the next 16 of the bits that are held, and zeros where fewer are held.
-pub record IsWindow (held word window : ℕ) : Type 0 where
-  pub small : window < 2 ^ 16
-  pub full : 16 ≤ held → bits_of held word ≡ bits_of 16 window ++ bits_of (held - 16) word
-  pub short : held < 16 → bits_of 16 window ≡ bits_of held word ++ replicate (16 - held) false
-
--- Category 3 (T.81, table F.1): 000 is -7, 011 is -4, 100 is 4. Category 0 is 0.
-pub difference-example : (difference 3 0 ≡ negsuc 6) × (difference 3 3 ≡ negsuc 3) × (difference 3 4 ≡ pos 4) × (difference 0 0 ≡ pos 0) × (difference 1 0 ≡ negsuc 0) × (difference 15 32767 ≡ pos 32767)
-difference-example = (refl, refl, refl, refl, refl, refl)
-
--- FF 00 is one byte of data, and FF D9 ends it.
-pub unstuffed-example : unstuffed (255 ∷ 0 ∷ 163 ∷ 255 ∷ 217 ∷ 1 ∷ []) ≡ 255 ∷ 163 ∷ []
-unfolding unstuffed
-unstuffed-example = refl

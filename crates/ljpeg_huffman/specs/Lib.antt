@@ -1,3 +1,3 @@
 pub mod Differences
-pub mod Short
 pub mod Words
+pub mod inner

@@ -1,6 +1,7 @@
 -- The code words of a table (ITU-T T.81, Annex C).
-use Rattle.std.specs.Prelude.{◌≡◌, ℕ, suc, ◌+◌, ◌-◌, ◌*◌, ◌^◌, ◌≤◌, Bool, List, [], ◌∷◌, ◌++◌, length, take, drop, ◌==◌, if◌then◌else◌, AllPairs, All, sum, refl, true, false, Option, Some, None, option_map, unwrap_or, find, nat_lt}
-use Rattle.binary_digits.specs.Digits.{bits_of, number_of}
+use Rattle.std.specs.Prelude.{◌≡◌, ℕ, suc, ◌+◌, ◌-◌, ◌*◌, ◌^◌, Bool, List, [], ◌∷◌, ◌++◌, take, drop, ◌==◌}
+use Rattle.std.specs.Prelude.{if◌then◌else◌, AllPairs, sum, Option, Some, None, option_map, unwrap_or, find, nat_lt}
+use Rattle.binary_digits.specs.Digits.{bits_of}
 use Rattle.ljpeg_huffman.specs.declared.table.TableFault.{TableFault}
 use Rattle.ljpeg_huffman.specs.declared.table.TableFault.TheVariants.{Empty, TooMany, Category, Overfull}
 
@@ -18,9 +19,11 @@ words_of_length size code (category ∷ categories) =
 unfoldable pub words_from : ℕ → ℕ → List ℕ → List ℕ → Table
 words_from size code [] values = []
 words_from size code (count ∷ counts) values =
-    words_of_length size code (take count values) ++ words_from (suc size) (2 * (code + count)) counts (drop count values)
+    words_of_length size code (take count values)
+    ++ words_from (suc size) (2 * (code + count)) counts (drop count values)
 
--- The code words in the order of their values: of length 1 from 0 on, as many as the first count, and so on (Annex C.2).
+-- The code words in the order of their values: of length 1 from 0 on, as many as the first count, and so on
+-- (Annex C.2).
 unfoldable pub code_words : List ℕ → List ℕ → Table
 code_words counts values = words_from 1 0 counts values
 
@@ -28,13 +31,6 @@ code_words counts values = words_from 1 0 counts values
 unfoldable pub space_from : ℕ → List ℕ → ℕ
 space_from size [] = 0
 space_from size (count ∷ counts) = count * 2 ^ (16 - size) + space_from (suc size) counts
-
--- The words of 16 bits that begin with a word of at most 16 are those from `low_end` on and below `high_end`.
-abbrev pub low_end : List Bool → ℕ
-low_end word = number_of word * 2 ^ (16 - length word)
-
-abbrev pub high_end : List Bool → ℕ
-high_end word = (number_of word + 1) * 2 ^ (16 - length word)
 
 -- Bits begin with a word.
 abbrev pub IsPrefix : List Bool → List Bool → Type 0
@@ -44,13 +40,6 @@ IsPrefix word bits = (rest : List Bool) × (bits ≡ word ++ rest)
 abbrev pub IsPrefixFree : Table → Type 0
 IsPrefixFree table = AllPairs (λ a b. (¬ IsPrefix a.0 b.0) × (¬ IsPrefix b.0 a.0)) table
 
--- What lengths and values make a table: all code words fit their lengths, and each value is a category.
-pub record IsTable (counts values : List ℕ) : Type 0 where
-  pub lengths : length counts ≡ 16
-  pub total : sum counts ≤ length values
-  pub fits : space_from 1 counts ≤ 2 ^ 16
-  pub categories : All (λ v. v ≤ 16) values
-
 -- The first reason for which lengths and values make no table, in this order: they are none, more than 256, a value
 -- is no category, or the code words of some length are more than are left there.
 unfoldable pub table_fault : List ℕ → List ℕ → Option TableFault
@@ -59,8 +48,3 @@ table_fault counts values =
     else (if nat_lt 256 (sum counts) then Some TooMany
     else unwrap_or (option_map (λ v. Some (Category v)) (find (nat_lt 16) values))
     (if nat_lt (2 ^ 16) (space_from 1 counts) then Some Overfull else None))
-
--- Two code words of one bit, and one of two: 0, 10 and 11 (an example).
-pub code_words-example : code_words (1 ∷ 2 ∷ []) (5 ∷ 7 ∷ 6 ∷ []) ≡ (false ∷ [], 5) ∷ (true ∷ false ∷ [], 7) ∷ (true ∷ true ∷ [], 6) ∷ []
-unfolding code_words words_from words_of_length bits_of
-code_words-example = refl

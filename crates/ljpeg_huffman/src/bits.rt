@@ -1,12 +1,17 @@
 //! Differences from stuffed data bits (ITU-T T.81, Annex H.1.2).
 
-ghost use Rattle.std.specs.Prelude.{◌≡◌, ℕ, ◌+◌, ◌-◌, ◌*◌, ◌/◌, ◌^◌, ◌<◌, ◌≤◌, ◌⊎◌, ◌↔◌, List, [], ◌∷◌, ◌++◌, Bool, length, map, IfOk, IfErr, OnOk, OnErr, MatchOption, ℤ};
+ghost use Rattle.std.specs.Prelude.{◌≡◌, ℕ, ◌+◌, ◌-◌, ◌*◌, ◌/◌, ◌^◌, ◌<◌, ◌≤◌, ◌⊎◌, ◌↔◌, List, [], ◌∷◌, ◌++◌, Bool};
+ghost use Rattle.std.specs.Prelude.{length, map, IfOk, IfErr, OnOk, OnErr, MatchOption, ℤ};
 ghost use Rattle.std.specs.Bool.{OnTrue};
 ghost use Rattle.binary_digits.specs.Digits.{bits_of};
 ghost use Rattle.ljpeg_huffman.specs.Words.{Table, IsPrefixFree};
-ghost use Rattle.ljpeg_huffman.specs.Differences.{unstuffed, data_bits, bits_left, by_turns, further_bits, difference, modulo, IsWindow, SpellsOne, Spells, StopsShort, Takes, EndsWithin, HasNoCode};
+ghost use Rattle.ljpeg_huffman.specs.Differences.{unstuffed, data_bits, by_turns, further_bits, difference, modulo};
+ghost use Rattle.ljpeg_huffman.specs.Differences.{SpellsOne, Spells, StopsShort, Takes, EndsWithin, HasNoCode};
+ghost use Rattle.ljpeg_huffman.specs.inner.Registers.{bits_left, IsWindow};
 
 use crate::table::CodeTable;
+use std::error::Error;
+use std::fmt;
 use std::marker::Model;
 
 /// Why no difference could be read.
@@ -17,6 +22,17 @@ pub enum BitFault {
     /// The data went on with the bits of no code word.
     NoCode,
 }
+
+impl fmt::Display for BitFault {
+    fn fmt<W: fmt::Write>(&self, f: &mut fmt::Formatter<W>) -> fmt::Result {
+        match self {
+            BitFault::Ended => write!(f, "the data ended within a difference"),
+            BitFault::NoCode => write!(f, "the data went on with the bits of no code word"),
+        }
+    }
+}
+
+impl Error for BitFault {}
 
 /// The most bits of one difference: a code word of 16, and 15 further bits.
 const MOST_BITS: u32 = 31;
@@ -29,14 +45,12 @@ pub struct Bits<'a> {
 }
 
 impl<'a> Model for Bits<'a> {
-    ghost use Rattle.std.specs.Prelude.{List, Bool, ◌<◌};
-    ghost use Rattle.ljpeg_huffman.specs.Differences.{bits_left};
+    ghost use Rattle.std.specs.Prelude.{List, Bool};
+    ghost use Rattle.ljpeg_huffman.specs.inner.Registers.{bits_left};
 
     ghost Value = { List Bool };
 
     ghost view = { λ bits. bits_left bits.register.held bits.register.word bits.register.bytes.now };
-
-    ghost invariant = { λ bits. bits.register.held < 64 };
 }
 
 /// Bits that were taken from the data and not read yet: the lowest `held` bits of `word`, before those of `bytes`.
@@ -45,6 +59,7 @@ struct Register<'a> {
     bytes: &'a [u8],
     word: u64,
     held: u32,
+    ghost room: { held < 64 },
 }
 
 impl<'a> Bits<'a> {
@@ -62,6 +77,11 @@ impl<'a> Bits<'a> {
     }
 
     /// Takes one code word of the table and its further bits. After a fault the place in the data is unchanged.
+    ///
+    /// # Errors
+    ///
+    /// `Ended` where the data ended within the code word or its further bits, `NoCode` where they go on with no code
+    /// word.
     pub fn next_difference(&mut self, table: &CodeTable) -> Result<i32, BitFault>
         ensures ok { IfOk result
             (λ value. (taken : List Bool) × (self.old ≡ taken ++ self.new) × SpellsOne table.now taken value) }
@@ -84,6 +104,10 @@ impl<'a> Bits<'a> {
 
     /// Takes as many differences as `line` is long, by tables that take turns, and writes them there modulo 2^16. After
     /// a fault `line` holds anything, and the place in the data is some earlier one.
+    ///
+    /// # Errors
+    ///
+    /// Those of [`Bits::next_difference`], at the first difference that can't be taken.
     pub fn next_differences(
         &mut self,
         tables: &[&CodeTable],
@@ -120,11 +144,9 @@ pub fn one_spelling()
 impl<'a> Register<'a> {
     /// Takes bytes until one difference at least is held, or to the end of the data.
     fn fill(&mut self)
-        requires { self.old.held < 64 }
         ensures same { bits_left self.new.held self.new.word self.new.bytes.now
             ≡ bits_left self.old.held self.old.word self.old.bytes.now }
         ensures enough { (MOST_BITS ≤ self.new.held) ⊎ (data_bits self.new.bytes.now ≡ []) }
-        ensures room { self.new.held < 64 }
     {
         if self.held < MOST_BITS && !self.take_four() {
             self.take_bytes();
@@ -137,7 +159,6 @@ impl<'a> Register<'a> {
         ensures same { bits_left self.new.held self.new.word self.new.bytes.now
             ≡ bits_left self.old.held self.old.word self.old.bytes.now }
         ensures enough { OnTrue result (MOST_BITS ≤ self.new.held) }
-        ensures room { self.new.held < 64 }
     {
         let [a, b, c, d, rest @ ..] = self.bytes else {
             return false;
@@ -154,11 +175,9 @@ impl<'a> Register<'a> {
 
     /// Takes bytes one by one, to the end of the data or as many as there is room for.
     fn take_bytes(&mut self)
-        requires { self.old.held < 64 }
         ensures same { bits_left self.new.held self.new.word self.new.bytes.now
             ≡ bits_left self.old.held self.old.word self.old.bytes.now }
         ensures enough { (MOST_BITS ≤ self.new.held) ⊎ (data_bits self.new.bytes.now ≡ []) }
-        ensures room { self.new.held < 64 }
     {
         while self.held < 56 {
             let Some((byte, rest)) = next_byte(self.bytes) else {
@@ -172,7 +191,6 @@ impl<'a> Register<'a> {
 
     /// The next 16 bits, and zeros where fewer are held.
     fn window(&self) -> u32
-        requires { self.now.held < 64 }
         ensures { IsWindow self.now.held self.now.word result }
     {
         if self.held >= 16 {
@@ -187,12 +205,12 @@ impl<'a> Register<'a> {
         requires few { further ≤ size }
         requires narrow { further ≤ 15 }
         requires held { size ≤ self.old.held }
-        requires room { self.old.held < 64 }
         ensures number { result < 2 ^ further }
         ensures bits { bits_of self.old.held self.old.word
             ≡ bits_of (size - further) (self.old.word / 2 ^ (self.old.held - (size - further)))
             ++ bits_of further result ++ bits_of self.new.held self.new.word }
-        ensures after { self.new ≡ record self.old { held = self.old.held - size } }
+        ensures held { self.new.held ≡ self.old.held - size }
+        ensures after { self.new.bytes.now ≡ self.old.bytes.now }
     {
         self.held -= size;
         ((self.word >> self.held) % (1 << further)) as u32

@@ -1,11 +1,15 @@
 //! Tables of code words (ITU-T T.81, Annex C).
 
-ghost use Rattle.std.specs.Prelude.{◌≡◌, ℕ, ◌+◌, ◌-◌, ◌*◌, ◌/◌, ◌^◌, ◌<◌, ◌≤◌, length, sum, IfOk, IfSome, IfNone, Contains, All, find, nat_lt, replicate, ◌++◌, slice_index_or, None};
+ghost use Rattle.std.specs.Prelude.{◌≡◌, ℕ, ◌+◌, ◌-◌, ◌*◌, ◌/◌, ◌^◌, ◌<◌, ◌≤◌, length, sum, IfOk, IfSome, IfNone};
+ghost use Rattle.std.specs.Prelude.{Contains, All, find, nat_lt, replicate, ◌++◌, slice_index_or, None};
 ghost use Rattle.std.specs.Result.{result_err};
-ghost use Rattle.ljpeg_huffman.specs.Short.{IsShort};
+ghost use Rattle.ljpeg_huffman.specs.inner.Short.{IsShort};
 ghost use Rattle.binary_digits.specs.Digits.{bits_of};
-ghost use Rattle.ljpeg_huffman.specs.Words.{high_end, code_words, space_from, table_fault, IsPrefixFree, IsTable};
+ghost use Rattle.ljpeg_huffman.specs.Words.{code_words, space_from, table_fault, IsPrefixFree};
+ghost use Rattle.ljpeg_huffman.specs.inner.Tables.{high_end, IsTable};
 
+use std::error::Error;
+use std::fmt;
 use std::marker::Model;
 
 /// Why lengths and values make no table.
@@ -20,6 +24,22 @@ pub enum TableFault {
     /// Some length has more code words than are left there.
     Overfull,
 }
+
+impl fmt::Display for TableFault {
+    fn fmt<W: fmt::Write>(&self, f: &mut fmt::Formatter<W>) -> fmt::Result {
+        match *self {
+            TableFault::Empty => write!(f, "no code words"),
+            TableFault::TooMany => write!(f, "more than 256 code words"),
+            TableFault::Category { value } => write!(
+                f,
+                "category {value}, which is not from 0 to 16"
+            ),
+            TableFault::Overfull => write!(f, "more code words of a length than are left there"),
+        }
+    }
+}
+
+impl Error for TableFault {}
 
 /// A table of code words, each with the category from 0 to 16 that it stands for.
 #[derive(Drop)]
@@ -37,20 +57,27 @@ const SHORT: u8 = 9;
 
 impl Model for CodeTable {
     ghost use Rattle.std.specs.Prelude.{List, Bool, ℕ, ◌<◌, slice_index_or, None};
-    ghost use Rattle.ljpeg_huffman.specs.Words.{code_words, IsTable};
-    ghost use Rattle.ljpeg_huffman.specs.Short.{IsShort};
+    ghost use Rattle.ljpeg_huffman.specs.Words.{code_words};
+    ghost use Rattle.ljpeg_huffman.specs.inner.Tables.{IsTable};
+    ghost use Rattle.ljpeg_huffman.specs.inner.Short.{IsShort};
 
     ghost Value = { List (List Bool × ℕ) };
 
     ghost view = { λ table. code_words table.counts table.values };
 
     ghost invariant = { λ table. IsTable table.counts table.values
-        × ((place : ℕ) → place < 512 → IsShort table.counts table.values place (slice_index_or table.short place None)) };
+        × ((place : ℕ) → place < 512
+        → IsShort table.counts table.values place (slice_index_or table.short place None)) };
 }
 
 impl CodeTable {
     /// The table whose code words of 1 to 16 bits are as many as `counts` says, for the categories `values` in this
     /// order.
+    ///
+    /// # Errors
+    ///
+    /// The first of these: `Empty` where there are no code words, `TooMany` where there are more than 256, `Category`
+    /// with the first value above 16, `Overfull` where some length has more code words than are left there.
     pub fn read(counts: &[u8; 16], values: &[u8]) -> Result<CodeTable, TableFault>
         requires { length values.now ≡ sum counts.now }
         ensures table { IfOk result (λ table. table ≡ code_words counts.now values.now) }
@@ -76,9 +103,14 @@ impl CodeTable {
             short: short_codes(counts, &values),
         })
     }
-}
 
-impl CodeTable {
+    /// A law of each table: no code word is a prefix of another.
+    pub fn prefix_free(&self)
+        ensures { IsPrefixFree self.now }
+    {
+        let _ = &self.counts;
+    }
+
     /// The code word that begins the 16 bits of `window`.
     pub(crate) fn find(&self, window: u32) -> Option<Code>
         requires { window < 2 ^ 16 }

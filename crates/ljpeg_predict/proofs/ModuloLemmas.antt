@@ -1,5 +1,6 @@
 -- Numbers modulo 2^16.
-use Rattle.std.proofs.Common.{◌≡◌, ℕ, suc, ◌+◌, ◌*◌, ◌%◌, ◌<◌, ℤ, pos, negsuc, ◌+ℤ◌, ◌-ℤ◌, ◌-◌, refl, sym, ap, ap₂, ◌∙◌, arith, lit<, unsigned_abs}
+use Rattle.std.proofs.Common.{◌≡◌, ℕ, suc, ◌+◌, ◌*◌, ◌%◌, ◌<◌, ℤ, pos, negsuc, ◌+ℤ◌, ◌-ℤ◌, ◌-◌, refl, sym, ap, ap₂, ◌∙◌}
+use Rattle.std.proofs.Common.{arith, lit<, unsigned_abs}
 use Rattle.std.proofs.lemmas.Int.{ints, int_rem_euclid_is}
 use Rattle.ljpeg_huffman.specs.Differences.{modulo}
 
@@ -33,7 +34,8 @@ modulo-add-modulo z d =
     let f : d +ℤ pos (u.k * 65536) ≡ pos u.m = u.is in
     let whole : (z +ℤ d) +ℤ pos ((t.k + u.k) * 65536) ≡ pos (t.m + u.m) = omega (arith, ints) in
     let parts : (t.m % 65536 + u.m % 65536) % 65536 ≡ (t.m + u.m) % 65536 = omega arith in
-    sym (modulo-add z (modulo d)) ∙ ap₂ (λ x y. (x + y) % 65536) (modulo_is z t.k t.m e) (modulo_is d u.k u.m f) ∙ parts ∙ sym (modulo_is (z +ℤ d) (t.k + u.k) (t.m + u.m) whole)
+    sym (modulo-add z (modulo d)) ∙ ap₂ (λ x y. (x + y) % 65536) (modulo_is z t.k t.m e) (modulo_is d u.k u.m f) ∙ parts
+    ∙ sym (modulo_is (z +ℤ d) (t.k + u.k) (t.m + u.m) whole)
 
 pub modulo_below : (z : ℤ) → modulo z < 65536
 modulo_below z =
@@ -48,4 +50,5 @@ modulo-sub n z =
     let e : z +ℤ pos (t.k * 65536) ≡ pos t.m = t.is in
     let whole : (pos n -ℤ z) +ℤ pos (t.m * 65536) ≡ pos (n + t.m * 65535 + t.k * 65536) = omega (arith, ints) in
     let parts : (n + (65536 - t.m % 65536)) % 65536 ≡ (n + t.m * 65535 + t.k * 65536) % 65536 = omega arith in
-    ap (λ x. (n + (65536 - x)) % 65536) (modulo_is z t.k t.m e) ∙ parts ∙ sym (modulo_is (pos n -ℤ z) t.m (n + t.m * 65535 + t.k * 65536) whole)
+    ap (λ x. (n + (65536 - x)) % 65536) (modulo_is z t.k t.m e) ∙ parts
+    ∙ sym (modulo_is (pos n -ℤ z) t.m (n + t.m * 65535 + t.k * 65536) whole)

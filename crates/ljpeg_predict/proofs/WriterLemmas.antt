@@ -1,5 +1,7 @@
 -- Bits in stuffed bytes.
-use Rattle.std.proofs.Common.{◌≡◌, ℕ, zero, suc, ◌+◌, ◌-◌, ◌*◌, ◌/◌, ◌%◌, ◌^◌, ◌<◌, ◌≤◌, Bool, true, false, eqb, List, [], ◌∷◌, ◌++◌, length, replicate, take, refl, sym, ap, ap₂, ◌∙◌, arith, append_assoc, append-nil, length-append, pow_pos, pow-suc, lit<}
+use Rattle.std.proofs.Common.{◌≡◌, ℕ, zero, suc, ◌+◌, ◌-◌, ◌*◌, ◌/◌, ◌%◌, ◌^◌, ◌<◌, ◌≤◌, Bool, true, false, eqb, List}
+use Rattle.std.proofs.Common.{[], ◌∷◌, ◌++◌, length, replicate, take, refl, sym, ap, ap₂, ◌∙◌, arith, append_assoc}
+use Rattle.std.proofs.Common.{append-nil, length-append, pow_pos, pow-suc, lit<}
 use Rattle.std.proofs.Math.Nat.{mul-le-mul_right, pow-le-pow_right}
 use Rattle.std.proofs.Math.Seq.{take-append_seam}
 use Rattle.std.proofs.lemmas.Grind.{flat_map-append}
@@ -7,9 +9,10 @@ use Rattle.std.proofs.lemmas.List.{length-take, take_all, take-take}
 use Rattle.std.proofs.lemmas.Nat.{one_shl, shr_high}
 use Rattle.ljpeg_huffman.proofs.DataLemmas.{bits_of-push}
 use Rattle.binary_digits.specs.Digits.{bits_of, byte_bits}
-use Rattle.binary_digits.proofs.DigitLemmas.{length-bits_of, length-byte_bits, bits_of-high, bits_of-mod, bits_of-split, bits_of-suc, bits_of-zero}
+use Rattle.binary_digits.proofs.DigitLemmas.{byte_bits-append, length-bits_of, length-byte_bits, bits_of-high}
+use Rattle.binary_digits.proofs.DigitLemmas.{bits_of-mod, bits_of-split, bits_of-suc, bits_of-zero}
 use Rattle.ljpeg_predict.specs.Encoding.{stuffed}
-use Rattle.ljpeg_predict.specs.Writing.{Adds, AddsLast, KeepsFront}
+use Rattle.ljpeg_predict.specs.inner.Writing.{Adds, AddsLast, KeepsPrefix}
 use Rattle.ljpeg_predict.specs.declared.writer.Pending.{Pending}
 
 pub stuffed-nil : stuffed [] ≡ []
@@ -28,11 +31,9 @@ pub stuffed_marked : (byte : ℕ) → eqb byte 255 ≡ true → stuffed (byte �
 unfolding stuffed
 stuffed_marked byte h = rw h refl
 
-pub byte_bits-append : (xs ys : List ℕ) → byte_bits (xs ++ ys) ≡ byte_bits xs ++ byte_bits ys
-byte_bits-append xs ys = flat_map-append (bits_of 8) xs ys
-
 -- nothing was written yet
-pub adds_nothing : (old : List ℕ) (bits : List Bool) (word held : ℕ) → bits_of held word ≡ bits → Adds old old bits (record { word = word; held = held })
+pub adds_nothing : (old : List ℕ) (bits : List Bool) (word held : ℕ) → bits_of held word ≡ bits
+    → Adds old old bits (record { word = word; held = held })
 adds_nothing old bits word held e = record {
   stretch = [];
   is = sym (ap (λ x. old ++ x) stuffed-nil ∙ append-nil old);
@@ -40,7 +41,8 @@ adds_nothing old bits word held e = record {
 }
 
 -- whole bytes leave nothing
-pub none_left : (old new : List ℕ) (bits : List Bool) (left : Pending) → Adds old new bits left → left.held < 8 → length bits ≡ 8 → left.held ≡ 0
+pub none_left : (old new : List ℕ) (bits : List Bool) (left : Pending) → Adds old new bits left → left.held < 8
+    → length bits ≡ 8 → left.held ≡ 0
 none_left old new bits left a few size =
     let total = ap length a.digits in
     let parts = length-append (byte_bits a.stretch) (bits_of left.held left.word) in
@@ -49,13 +51,16 @@ none_left old new bits left a few size =
     omega (arith, total, parts, bytes, rest)
 
 -- the last byte is filled with ones
-pub adds_last : (old new : List ℕ) (bits : List Bool) (ones : ℕ) (left : Pending) → ones < 8 → left.held ≡ 0 → Adds old new (bits ++ replicate ones true) left → AddsLast old new bits
+pub adds_last : (old new : List ℕ) (bits : List Bool) (ones : ℕ) (left : Pending) → ones < 8 → left.held ≡ 0
+    → Adds old new (bits ++ replicate ones true) left → AddsLast old new bits
 adds_last old new bits ones left few none a = record {
   stretch = a.stretch;
   is = a.is;
   ones = ones;
   few = few;
-  digits = sym (append-nil (byte_bits a.stretch)) ∙ ap (λ x. byte_bits a.stretch ++ x) (sym (ap (λ n. bits_of n left.word) none ∙ bits_of-zero left.word)) ∙ a.digits;
+  digits = sym (append-nil (byte_bits a.stretch))
+      ∙ ap (λ x. byte_bits a.stretch ++ x) (sym (ap (λ n. bits_of n left.word) none ∙ bits_of-zero left.word))
+      ∙ a.digits;
 }
 
 pub all_ones : (size : ℕ) → bits_of size (2 ^ size - 1) ≡ replicate size true
@@ -65,40 +70,52 @@ all_ones (suc size) =
     let two : 2 ^ suc size ≡ 2 * 2 ^ size = omega (arith, pow-suc 2 size) in
     let high : 2 ^ suc size - 1 ≡ 1 * 2 ^ size + (2 ^ size - 1) = omega (arith, some, two) in
     let top : (1 * 2 ^ size + (2 ^ size - 1)) / 2 ^ size ≡ 1 = shr_high 1 size (2 ^ size - 1) (omega (arith, some)) in
-    let low : bits_of size (1 * 2 ^ size + (2 ^ size - 1)) ≡ bits_of size (2 ^ size - 1) = bits_of-high size 1 (2 ^ size - 1) (omega (arith, some)) in
-    ap (bits_of (suc size)) high ∙ bits_of-suc size (1 * 2 ^ size + (2 ^ size - 1)) ∙ ap₂ (λ n rest. eqb (n % 2) 1 ∷ rest) top (low ∙ all_ones size)
+    let low : bits_of size (1 * 2 ^ size + (2 ^ size - 1)) ≡ bits_of size (2 ^ size - 1) =
+    bits_of-high size 1 (2 ^ size - 1) (omega (arith, some)) in
+    ap (bits_of (suc size)) high ∙ bits_of-suc size (1 * 2 ^ size + (2 ^ size - 1))
+    ∙ ap₂ (λ n rest. eqb (n % 2) 1 ∷ rest) top (low ∙ all_ones size)
 
 -- one more byte
-pub adds_byte : (old middle new : List ℕ) (bits : List Bool) (word before held byte : ℕ) → before ≡ held + 8 → Adds old middle bits (record { word = word; held = before }) → byte ≡ word / 2 ^ held % 256 → new ≡ middle ++ stuffed (byte ∷ []) → Adds old new bits (record { word = word; held = held })
+pub adds_byte : (old middle new : List ℕ) (bits : List Bool) (word before held byte : ℕ) → before ≡ held + 8
+    → Adds old middle bits (record { word = word; held = before }) → byte ≡ word / 2 ^ held % 256
+    → new ≡ middle ++ stuffed (byte ∷ []) → Adds old new bits (record { word = word; held = held })
 adds_byte old middle new bits word before held byte more a is written =
     let swap : before ≡ 8 + held = omega arith in
     let top : bits_of 8 byte ≡ bits_of 8 (word / 2 ^ held) = ap (bits_of 8) is ∙ bits_of-mod 8 0 (word / 2 ^ held) in
-    let split : bits_of before word ≡ bits_of 8 byte ++ bits_of held word = ap (λ n. bits_of n word) swap ∙ bits_of-split 8 held word ∙ ap (λ x. x ++ bits_of held word) (sym top) in
+    let split : bits_of before word ≡ bits_of 8 byte ++ bits_of held word =
+    ap (λ n. bits_of n word) swap ∙ bits_of-split 8 held word ∙ ap (λ x. x ++ bits_of held word) (sym top) in
     record {
       stretch = a.stretch ++ byte ∷ [];
-      is = written ∙ ap (λ x. x ++ stuffed (byte ∷ [])) a.is ∙ append_assoc old (stuffed a.stretch) (stuffed (byte ∷ [])) ∙ ap (λ x. old ++ x) (sym (stuffed-append a.stretch (byte ∷ [])));
-      digits = ap (λ x. x ++ bits_of held word) (byte_bits-append a.stretch (byte ∷ []) ∙ ap (λ x. byte_bits a.stretch ++ x) (append-nil (bits_of 8 byte))) ∙ append_assoc (byte_bits a.stretch) (bits_of 8 byte) (bits_of held word)
+      is = written ∙ ap (λ x. x ++ stuffed (byte ∷ [])) a.is
+          ∙ append_assoc old (stuffed a.stretch) (stuffed (byte ∷ []))
+          ∙ ap (λ x. old ++ x) (sym (stuffed-append a.stretch (byte ∷ [])));
+      digits = ap (λ x. x ++ bits_of held word)
+          (byte_bits-append a.stretch (byte ∷ []) ∙ ap (λ x. byte_bits a.stretch ++ x) (append-nil (bits_of 8 byte)))
+          ∙ append_assoc (byte_bits a.stretch) (bits_of 8 byte) (bits_of held word)
           ∙ ap (λ x. byte_bits a.stretch ++ x) (sym split) ∙ a.digits;
     }
 
-pub kept_all : (a : List ℕ) → KeepsFront a a
+pub kept_all : (a : List ℕ) → KeepsPrefix a a
 kept_all a = take_all (length a) a (omega arith)
 
 -- a prefix that stays over two steps
-pub kept_twice : (a b c : List ℕ) → KeepsFront a b → KeepsFront b c → KeepsFront a c
+pub kept_twice : (a b c : List ℕ) → KeepsPrefix a b → KeepsPrefix b c → KeepsPrefix a c
 kept_twice a b c k l =
     let short : length a ≤ length b = omega (arith, ap length k, length-take (length a) b) in
     sym (take-take (length a) (length b) c short) ∙ ap (take (length a)) l ∙ k
 
 -- bits behind pending ones
-pub joined : (held word size number : ℕ) → held < 8 → size ≤ 24 → number < 2 ^ size → bits_of (held + size) (word % 256 * (1 * 2 ^ size % 2 ^ 32) + number) ≡ bits_of held word ++ bits_of size number
+pub joined : (held word size number : ℕ) → held < 8 → size ≤ 24 → number < 2 ^ size
+    → bits_of (held + size) (word % 256 * (1 * 2 ^ size % 2 ^ 32) + number) ≡ bits_of held word ++ bits_of size number
 joined held word size number h s small =
     let whole : held + (8 - held) ≡ 8 = omega arith in
     let shift : 1 * 2 ^ size % 2 ^ 32 ≡ 2 ^ size = one_shl size 32 (omega arith) in
     ap (λ n. bits_of (held + size) (word % 256 * n + number)) shift
-    ∙ ap (λ n. bits_of (held + size) (word % 2 ^ n * 2 ^ size + number)) (sym whole) ∙ bits_of-push held size (8 - held) word number small
+    ∙ ap (λ n. bits_of (held + size) (word % 2 ^ n * 2 ^ size + number)) (sym whole)
+    ∙ bits_of-push held size (8 - held) word number small
 
-pub joined_fits : (word size number : ℕ) → size ≤ 24 → number < 2 ^ size → word % 256 * (1 * 2 ^ size % 2 ^ 32) + number < 2 ^ 32
+pub joined_fits : (word size number : ℕ) → size ≤ 24 → number < 2 ^ size
+    → word % 256 * (1 * 2 ^ size % 2 ^ 32) + number < 2 ^ 32
 joined_fits word size number s small =
     let shift : 1 * 2 ^ size % 2 ^ 32 ≡ 2 ^ size = one_shl size 32 (omega arith) in
     let most : 2 ^ size ≤ 2 ^ 24 = pow-le-pow_right (lit< tt) s in
@@ -120,5 +137,5 @@ pub shifted_ones : (size : ℕ) → size < 32 → bits_of size (1 * 2 ^ size % 2
 shifted_ones size h = ap (λ n. bits_of size (n - 1)) (one_shl size 32 h) ∙ all_ones size
 
 -- what is appended leaves the prefix
-pub kept_front : (a more : List ℕ) → KeepsFront a (a ++ more)
-kept_front a more = take-append_seam a more
+pub kept_prefix : (a more : List ℕ) → KeepsPrefix a (a ++ more)
+kept_prefix a more = take-append_seam a more

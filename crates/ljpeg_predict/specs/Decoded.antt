@@ -1,5 +1,7 @@
--- What a stream answers, computed bit by bit: the one answer that the stream definition allows (ITU-T T.81, annexes F and H).
-use Rattle.std.specs.Prelude.{ℕ, zero, suc, nat_lt, if◌then◌else◌, Bool, true, false, List, [], ◌∷◌, ◌++◌, length, take, drop, ℤ, ◌+ℤ◌, Option, None, Some, Result, Ok, Err}
+-- What a stream answers, computed bit by bit: the one answer that the stream definition allows (ITU-T T.81, annexes F
+-- and H).
+use Rattle.std.specs.Prelude.{ℕ, zero, suc, nat_lt, if◌then◌else◌, Bool, true, false, List, [], ◌∷◌, ◌++◌, length, take}
+use Rattle.std.specs.Prelude.{drop, ℤ, ◌+ℤ◌, Option, None, Some, Result, Ok, Err}
 use Rattle.std.specs.List.{list_any}
 use Rattle.binary_digits.specs.Digits.{number_of}
 use Rattle.ljpeg_huffman.specs.Words.{Table}
@@ -52,7 +54,10 @@ abbrev pub taken : Code → Result Taken BitFault
 taken code =
     let further = further_bits code.category in
     if nat_lt (length code.rest) further then Err bit.Ended
-    else Ok (record { value = difference code.category (number_of (take further code.rest)); rest = drop further code.rest })
+    else Ok (record {
+      value = difference code.category (number_of (take further code.rest));
+      rest = drop further code.rest;
+    })
 
 -- the difference of a code word that was found; where none was, the bits ended within one or are of none
 abbrev pub taken_or : (is_cut : Bool) → Option Code → Result Taken BitFault
@@ -86,11 +91,15 @@ rebuilt_behind scan samples [] = samples
 rebuilt_behind scan samples (value ∷ values) =
     rebuilt_behind scan (samples ++ modulo (prediction scan samples (length samples) +ℤ value) ∷ []) values
 
+-- why a stream is refused whose data are too few
+abbrev pub data_fault : BitFault → JpegFault
+data_fault bit.Ended = fault.Ended
+data_fault bit.NoCode = fault.NoCode
+
 -- the samples of differences, or the stream's refusal
 abbrev pub samples_of : Scan → Result (List ℤ) BitFault → Result (List ℕ) JpegFault
 samples_of scan (Ok differences) = Ok (rebuilt_behind scan [] differences)
-samples_of scan (Err bit.Ended) = Err fault.Ended
-samples_of scan (Err bit.NoCode) = Err fault.NoCode
+samples_of scan (Err reason) = Err (data_fault reason)
 
 -- the samples of a stream that has so many, or its first refusal
 unfoldable pub decoded : List ℕ → ℕ → Result (List ℕ) JpegFault

@@ -1,6 +1,7 @@
 -- The encoder's stream: one of those that spell the samples (ITU-T T.81, annex H). Its table and its headers are this
 -- project's own choice.
-use Rattle.std.specs.Prelude.{◌≡◌, ℕ, suc, ◌+◌, ◌-◌, ◌/◌, ◌%◌, ◌^◌, ◌<◌, ◌==◌, nat_lt, unsigned_abs, if◌then◌else◌, ℤ, pos, negsuc, ◌-ℤ◌, Bool, true, List, [], ◌∷◌, ◌++◌, length, replicate, slice_index, Ok}
+use Rattle.std.specs.Prelude.{◌≡◌, ℕ, suc, ◌+◌, ◌-◌, ◌/◌, ◌%◌, ◌^◌, ◌<◌, ◌==◌, nat_lt, unsigned_abs, if◌then◌else◌, ℤ}
+use Rattle.std.specs.Prelude.{pos, negsuc, ◌-ℤ◌, Bool, true, List, [], ◌∷◌, ◌++◌, length, replicate, slice_index, Ok}
 use Rattle.std.specs.Int.{leading_zeros, w32}
 use Rattle.std.specs.List.{flat_map, range_with_len}
 use Rattle.binary_digits.specs.Digits.{bits_of, byte_bits}

@@ -1,5 +1,7 @@
 -- The headers up to a scan's data (ITU-T T.81, B.2), as lossless JPEG has them (B.2.4 and annex H).
-use Rattle.std.specs.Prelude.{ℕ, zero, suc, ◌+◌, ◌*◌, ◌/◌, ◌%◌, ◌==◌, ◌≤◌, nat_eq, nat_lt, Bool, not, ◌||◌, if◌then◌else◌, List, [], ◌∷◌, length, map, sum, take, drop, slice_index, slice_index_or, slice_set, Option, None, Some, is_some, is_none, unwrap_or, Result, Ok, Err}
+use Rattle.std.specs.Prelude.{ℕ, zero, suc, ◌+◌, ◌*◌, ◌/◌, ◌%◌, ◌==◌, ◌≤◌, nat_eq, nat_lt, Bool, not, ◌||◌}
+use Rattle.std.specs.Prelude.{if◌then◌else◌, List, [], ◌∷◌, length, map, sum, take, drop, slice_index, slice_index_or}
+use Rattle.std.specs.Prelude.{slice_set, Option, None, Some, is_some, is_none, unwrap_or, Result, Ok, Err}
 use Rattle.std.specs.List.{list_any, range_with_len, starts_with}
 use Rattle.ljpeg_huffman.specs.Words.{Table, code_words, table_fault}
 use Rattle.ljpeg_predict.specs.Chain.{◌>>=◌}
@@ -9,7 +11,8 @@ use Rattle.ljpeg_predict.specs.declared.JpegFault.{JpegFault}
 use Rattle.ljpeg_predict.specs.declared.JpegFault.TheVariants as fault
 use Rattle.ljpeg_predict.specs.declared.headers.FrameHeader.{FrameHeader}
 use Rattle.ljpeg_predict.specs.declared.scan.Predictor.{Predictor}
-use Rattle.ljpeg_predict.specs.declared.scan.Predictor.TheVariants.{Left, Above, AboveLeft, Plane, LeftAndSlope, AboveAndSlope, Mean}
+use Rattle.ljpeg_predict.specs.declared.scan.Predictor.TheVariants.{Left, Above, AboveLeft, Plane, LeftAndSlope}
+use Rattle.ljpeg_predict.specs.declared.scan.Predictor.TheVariants.{AboveAndSlope, Mean}
 use Rattle.ljpeg_predict.specs.declared.segments.Kind.{Kind}
 use Rattle.ljpeg_predict.specs.declared.segments.Kind.TheVariants as kind
 
@@ -39,20 +42,13 @@ frame_of body =
       ids = id 0 ∷ id 1 ∷ id 2 ∷ id 3 ∷ [];
     }))))
 
--- the bounds of a frame header that is told
-pub record IsFrame (frame : FrameHeader) : Type 0 where
-  pub low : 2 ≤ frame.precision
-  pub high : frame.precision ≤ 16
-  pub some : 1 ≤ frame.components
-  pub few : frame.components ≤ 4
-
 -- a table of code words with its number, and the bytes behind it
 pub record Numbered : Type 0 where
   pub number : ℕ
   pub table : Table
   pub rest : List ℕ
 
--- the table at the front of a body (B.2.4.2): class and number in a byte, how many code words there are of each
+-- the table that a body begins with (B.2.4.2): class and number in a byte, how many code words there are of each
 -- length, and their categories
 unfoldable pub table_in : List ℕ → Result Numbered JpegFault
 table_in body =
@@ -159,7 +155,7 @@ told_then kind.RestartInterval told body bytes next = interval_of body >>= λ no
 told_then kind.PassedOver told body bytes next = next told bytes
 told_then (kind.Scan frame) told body bytes next = scan_of frame told.tables body bytes
 
--- what the marker and the segment at the front tell, and then what follows them
+-- what the first marker and its segment tell, and then what follows them
 unfoldable pub segment_then : Told → List ℕ → (Told → List ℕ → Result Scan JpegFault) → Result Scan JpegFault
 segment_then told bytes next = do
   marker ← marker_at bytes

@@ -3,9 +3,8 @@ pub mod Decoded
 pub mod Encoding
 pub mod Faults
 pub mod Headers
-pub mod Lines
 pub mod Prediction
 pub mod Scans
 pub mod Segments
 pub mod Streams
-pub mod Writing
+pub mod inner

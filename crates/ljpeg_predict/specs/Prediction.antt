@@ -1,10 +1,12 @@
 -- Samples from their differences (ITU-T T.81, H.1.2.1).
-use Rattle.std.specs.Prelude.{◌≡◌, ℕ, ◌-◌, ◌%◌, ◌^◌, nat_lt, if◌then◌else◌, ℤ, pos, ◌+ℤ◌, ◌-ℤ◌, List, length, slice_index, slice_index_or, EachIndex}
+use Rattle.std.specs.Prelude.{◌≡◌, ℕ, ◌-◌, ◌%◌, ◌^◌, nat_lt, if◌then◌else◌, ℤ, pos, ◌+ℤ◌, ◌-ℤ◌, List, length}
+use Rattle.std.specs.Prelude.{slice_index, slice_index_or, EachIndex}
 use Rattle.std.specs.Int.{int_div_euclid}
 use Rattle.ljpeg_huffman.specs.Differences.{modulo}
 use Rattle.ljpeg_predict.specs.Scans.{Scan, components, row_length}
 use Rattle.ljpeg_predict.specs.declared.scan.Predictor.{Predictor}
-use Rattle.ljpeg_predict.specs.declared.scan.Predictor.TheVariants.{Left, Above, AboveLeft, Plane, LeftAndSlope, AboveAndSlope, Mean}
+use Rattle.ljpeg_predict.specs.declared.scan.Predictor.TheVariants.{Left, Above, AboveLeft, Plane, LeftAndSlope}
+use Rattle.ljpeg_predict.specs.declared.scan.Predictor.TheVariants.{AboveAndSlope, Mean}
 
 -- half of a number, rounded down
 abbrev pub half : ℤ → ℤ

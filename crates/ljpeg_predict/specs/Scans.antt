@@ -1,4 +1,4 @@
--- What the headers tell of a scan.
+-- What the headers tell of a scan (ITU-T T.81, B.2.2 and B.2.3).
 use Rattle.std.specs.Prelude.{ℕ, ◌*◌, List, length}
 use Rattle.ljpeg_huffman.specs.Differences.{by_turns}
 use Rattle.ljpeg_huffman.specs.Words.{Table}

@@ -1,5 +1,6 @@
 -- Markers and the segments behind them (ITU-T T.81, B.1.1.2 to B.1.1.4).
-use Rattle.std.specs.Prelude.{ℕ, ◌+◌, ◌-◌, ◌*◌, ◌==◌, nat_le, nat_lt, Bool, ◌&&◌, ◌||◌, if◌then◌else◌, List, [], ◌∷◌, length, take, drop, slice_index, Option, None, Some, Result, Ok, Err}
+use Rattle.std.specs.Prelude.{ℕ, ◌+◌, ◌-◌, ◌*◌, ◌==◌, nat_le, nat_lt, Bool, ◌&&◌, ◌||◌, if◌then◌else◌, List, [], ◌∷◌}
+use Rattle.std.specs.Prelude.{length, take, drop, slice_index, Option, None, Some, Result, Ok, Err}
 use Rattle.std.specs.List.{list_any}
 use Rattle.ljpeg_predict.specs.declared.JpegFault.{JpegFault}
 use Rattle.ljpeg_predict.specs.declared.JpegFault.TheVariants as fault
@@ -16,7 +17,7 @@ unfoldable pub code_at : List ℕ → Result (ℕ × List ℕ) JpegFault
 code_at [] = Err fault.Ended
 code_at (byte ∷ bytes) = if byte == 0xFF then code_at bytes else Ok (byte, bytes)
 
--- the marker at the front, and the bytes behind it (B.1.1.2)
+-- the marker that bytes begin with, and the bytes behind it (B.1.1.2)
 unfoldable pub marker_at : List ℕ → Result (ℕ × List ℕ) JpegFault
 marker_at [] = Err fault.Ended
 marker_at (byte ∷ bytes) = if byte == 0xFF then code_at bytes else Err (fault.Marker byte)

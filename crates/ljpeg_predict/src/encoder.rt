@@ -1,25 +1,39 @@
 //! Streams from samples: one component, with one table for all of them.
 
-ghost use Rattle.std.specs.Prelude.{ℕ, List, All, ◌≡◌, ◌+◌, ◌-◌, ◌*◌, ◌/◌, ◌%◌, ◌^◌, ◌<◌, ◌≤◌, [], ◌++◌, length, unsigned_abs, IfOk, OnOk, OnErr};
+ghost use Rattle.std.specs.Prelude.{ℕ, List, All, ◌≡◌, ◌+◌, ◌-◌, ◌*◌, ◌/◌, ◌%◌, ◌^◌, ◌<◌, ◌≤◌, [], ◌++◌, length};
+ghost use Rattle.std.specs.Prelude.{unsigned_abs, IfOk, OnOk, OnErr};
 ghost use Rattle.binary_digits.specs.Digits.{bits_of};
 ghost use Rattle.ljpeg_huffman.specs.Differences.{further_bits, modulo};
-ghost use Rattle.ljpeg_predict.specs.Encoding.{Appends, IsStream, category_of, code_word, difference_bits, extra_of, head, sample_bits, signed, written_scan};
+ghost use Rattle.ljpeg_predict.specs.Encoding.{Appends, IsStream, category_of, code_word, difference_bits, extra_of};
+ghost use Rattle.ljpeg_predict.specs.Encoding.{head, sample_bits, signed, written_scan};
 ghost use Rattle.ljpeg_predict.specs.Headers.{predictor_of};
 ghost use Rattle.ljpeg_predict.specs.Prediction.{prediction};
 ghost use Rattle.ljpeg_predict.specs.Streams.{IsAnswer};
-ghost use Rattle.ljpeg_predict.specs.Writing.{Adds, AddsLast, KeepsFront};
+ghost use Rattle.ljpeg_predict.specs.inner.Writing.{Adds, AddsLast, KeepsPrefix};
 
 use crate::lines::predict;
 use crate::scan::{Predictor, read_predictor};
 use crate::writer::Pending;
 use std::alloc::AllocError;
+use std::error::Error;
+use std::fmt;
 
 /// Why no stream was appended.
 #[derive(Clone, Copy, Debug, PartialEq, Eq)]
 pub enum EncodeFault {
-    /// Memory ran out.
+    /// Out of memory.
     Memory,
 }
+
+impl fmt::Display for EncodeFault {
+    fn fmt<W: fmt::Write>(&self, f: &mut fmt::Formatter<W>) -> fmt::Result {
+        match self {
+            EncodeFault::Memory => write!(f, "out of memory"),
+        }
+    }
+}
+
+impl Error for EncodeFault {}
 
 /// How the samples of a scan of one component are predicted.
 #[derive(Clone, Copy)]
@@ -109,7 +123,7 @@ fn write_difference(number: u16, pending: Pending, out: &mut Vec<u8>) -> Result<
     ensures few { IfOk result (λ left. left.held < 8) }
     ensures bits { IfOk result (Adds out.old.items out.new.items
         (bits_of pending.held pending.word ++ difference_bits (signed number))) }
-    ensures kept { KeepsFront out.old.items out.new.items }
+    ensures kept { KeepsPrefix out.old.items out.new.items }
 {
     let category = category_of(number);
     let (code, size) = code_of(category);
@@ -128,7 +142,7 @@ fn write_samples(shape: Shape, samples: &[u16], out: &mut Vec<u8>) -> Result<(),
     ensures ok { OnOk result ((lines : ℕ) → AddsLast out.old.items out.new.items
         (sample_bits (written_scan shape.precision lines shape.columns shape.predictor [])
         samples.now (length samples.now))) }
-    ensures kept { KeepsFront out.old.items out.new.items }
+    ensures kept { KeepsPrefix out.old.items out.new.items }
 {
     let mut pending = Pending::NONE;
     let mut column = 0;
@@ -234,7 +248,7 @@ fn write_stream(
     requires predictor { predictor_of selection ≡ Ok shape.predictor }
     ensures ok { OnOk result (Appends out.old.items out.new.items
         (IsStream samples.now (length samples.now / shape.columns) shape.columns shape.precision selection)) }
-    ensures kept { KeepsFront out.old.items out.new.items }
+    ensures kept { KeepsPrefix out.old.items out.new.items }
 {
     let lines = (samples.len() / shape.columns) as u16;
     let head = head_of(
@@ -249,8 +263,11 @@ fn write_stream(
     Ok(())
 }
 
-/// Appends the stream of some samples, lines of `cols`, each predicted by the predictor of a selection value. After
-/// `Memory`, `out` is as before.
+/// Appends the stream of some samples, lines of `cols`, each predicted by the predictor of a selection value.
+///
+/// # Errors
+///
+/// `Memory` where there is none; `out` is then as before.
 pub fn encode(
     samples: &[u16],
     cols: u32,

@@ -1,8 +1,10 @@
 //! The headers up to a scan's data (ITU-T T.81, B.2).
 
 ghost use Rattle.std.specs.Prelude.{◌≡◌, ◌≤◌, ◌<◌, ◌+◌, length, sum, IfOk, MatchResult};
-ghost use Rattle.ljpeg_predict.specs.Chain.{Gives};
-ghost use Rattle.ljpeg_predict.specs.Headers.{IsFrame, frame_of, headers_in, headers_of, interval_of, is_subsampled, table_in, tables_of};
+ghost use Rattle.ljpeg_predict.specs.inner.Answers.{Gives};
+ghost use Rattle.ljpeg_predict.specs.Headers.{frame_of, headers_in, headers_of, interval_of, is_subsampled, table_in};
+ghost use Rattle.ljpeg_predict.specs.Headers.{tables_of};
+ghost use Rattle.ljpeg_predict.specs.inner.Frames.{IsFrame};
 
 use crate::JpegFault;
 use crate::scan::{Scan, read_scan};
@@ -84,7 +86,7 @@ fn total(counts: &[u8]) -> usize
     counts.iter().map(|count| usize::from(*count)).sum()
 }
 
-/// The table at the front of a body with its number, and the bytes behind it.
+/// The table that a body begins with, its number, and the bytes behind it.
 #[tactic(auto, unfolding(crate::specs::Headers::table_in))]
 fn read_table(body: &[u8]) -> Result<(u8, CodeTable, &[u8]), JpegFault>
     ensures gives { Gives (λ told. record { number = told.0; table = told.1; rest = told.2.now })

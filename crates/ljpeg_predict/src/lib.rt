@@ -23,6 +23,8 @@ pub use encoder::{EncodeFault, decoding_gives_back, encode};
 use headers::read_headers;
 use ljpeg_huffman::BitFault;
 use samples::read_samples;
+use std::error::Error;
+use std::fmt;
 use text_line::Line;
 
 /// Why a stream gives no samples.
@@ -58,6 +60,53 @@ pub enum JpegFault {
     Ended,
     /// The data went on with the bits of no code word.
     NoCode,
+}
+
+impl fmt::Display for JpegFault {
+    fn fmt<W: fmt::Write>(&self, f: &mut fmt::Formatter<W>) -> fmt::Result {
+        match *self {
+            JpegFault::NoStart => write!(f, "the stream doesn't begin with the marker SOI"),
+            JpegFault::Marker { byte } => write!(
+                f,
+                "no marker, or one that is out of place: {byte}"
+            ),
+            JpegFault::NotLossless { marker } => write!(
+                f,
+                "not lossless with Huffman codes: {marker}"
+            ),
+            JpegFault::HeaderLength => write!(f, "a segment of a wrong length"),
+            JpegFault::Precision => write!(f, "samples of fewer than 2 or more than 16 bits"),
+            JpegFault::Components => write!(f, "a wrong number or order of components"),
+            JpegFault::Sampling => write!(f, "sampling factors other than 1"),
+            JpegFault::Predictor => write!(f, "a predictor other than 1 to 7"),
+            JpegFault::PointTransform => write!(f, "a point transform other than 0"),
+            JpegFault::Restart => write!(f, "a restart interval other than 0"),
+            JpegFault::Table => write!(f, "a table of code words that is none"),
+            JpegFault::NoTable => write!(f, "a component's table was never given"),
+            JpegFault::Size { has } => write!(
+                f,
+                "another number of samples than was wanted: {has}"
+            ),
+            JpegFault::Ended => write!(f, "the stream ended within a header or a difference"),
+            JpegFault::NoCode => write!(f, "the data went on with the bits of no code word"),
+        }
+    }
+}
+
+impl Error for JpegFault {}
+
+impl From<BitFault> for JpegFault {
+    ghost use Rattle.std.specs.Prelude.{◌≡◌};
+    ghost use Rattle.ljpeg_predict.specs.Decoded.{data_fault};
+
+    ghost from_gives = { λ reason fault. fault ≡ data_fault reason };
+
+    fn from(reason: BitFault) -> JpegFault {
+        match reason {
+            BitFault::Ended => JpegFault::Ended,
+            BitFault::NoCode => JpegFault::NoCode,
+        }
+    }
 }
 
 impl JpegFault {
@@ -102,6 +151,11 @@ impl JpegFault {
 
 /// Writes the samples of a stream, line by line, sample by sample, component by component, where the stream has as many
 /// as `out` is long. What follows the last one isn't looked at. After a refusal `out` holds anything.
+///
+/// # Errors
+///
+/// The first refusal of the headers; `Size` where they tell another number of samples; then `Ended` or `NoCode` where
+/// the data are too few.
 pub fn decode(bytes: &[u8], out: &mut [u16]) -> Result<(), JpegFault>
     requires some { 0 < length out.old }
     requires few { length out.old ≤ 2 ^ 25 }
@@ -112,11 +166,8 @@ pub fn decode(bytes: &[u8], out: &mut [u16]) -> Result<(), JpegFault>
     if has != out.len() as u64 {
         return Err(JpegFault::Size { has });
     }
-    match read_samples(&scan, out) {
-        Ok(()) => Ok(()),
-        Err(BitFault::Ended) => Err(JpegFault::Ended),
-        Err(BitFault::NoCode) => Err(JpegFault::NoCode),
-    }
+    read_samples(&scan, out)?;
+    Ok(())
 }
 
 /// Differences are those of exactly one list of samples, for a scan whose lines have some.

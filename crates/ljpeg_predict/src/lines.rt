@@ -2,7 +2,7 @@
 
 ghost use Rattle.std.specs.Prelude.{◌≡◌, ℕ, ◌+◌, ◌-◌, ◌%◌, ◌^◌, ◌<◌, ◌≤◌, pos, ◌-ℤ◌, length, slice_index};
 ghost use Rattle.ljpeg_huffman.specs.Differences.{modulo};
-ghost use Rattle.ljpeg_predict.specs.Lines.{IsFirstLine, IsNextLine};
+ghost use Rattle.ljpeg_predict.specs.inner.Lines.{IsFirstLine, IsNextLine};
 ghost use Rattle.ljpeg_predict.specs.Prediction.{half, predicted};
 ghost use Rattle.ljpeg_predict.specs.declared.scan.Predictor.TheVariants as kind;
 

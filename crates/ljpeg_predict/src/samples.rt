@@ -2,7 +2,7 @@
 
 ghost use Rattle.std.specs.Prelude.{ℕ, ◌≡◌, ◌+◌, ◌*◌, ◌<◌, length, OnOk, IfErr};
 ghost use Rattle.ljpeg_huffman.specs.Words.{IsPrefixFree};
-ghost use Rattle.ljpeg_predict.specs.Lines.{IsLine};
+ghost use Rattle.ljpeg_predict.specs.inner.Lines.{IsLine};
 ghost use Rattle.ljpeg_predict.specs.Scans.{row_length, sample_count, table_at};
 ghost use Rattle.ljpeg_predict.specs.Streams.{IsCutShort, IsDecoded};
 

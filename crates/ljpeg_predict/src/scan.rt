@@ -2,7 +2,9 @@
 
 ghost use Rattle.std.specs.Prelude.{◌≡◌, ◌≤◌, ◌<◌, ◌-◌, ◌^◌, List, Option, length, map, take, unwrap_or, option_copied};
 ghost use Rattle.ljpeg_huffman.specs.Words.{Table};
-ghost use Rattle.ljpeg_predict.specs.Headers.{IsFrame, has_other_component, lacks_table, predictor_of, scan_of, table_numbers, told_table};
+ghost use Rattle.ljpeg_predict.specs.Headers.{has_other_component, lacks_table, predictor_of, scan_of, table_numbers};
+ghost use Rattle.ljpeg_predict.specs.Headers.{told_table};
+ghost use Rattle.ljpeg_predict.specs.inner.Frames.{IsFrame};
 ghost use Rattle.ljpeg_predict.specs.Scans.{components, row_length, sample_count};
 
 use crate::JpegFault;
@@ -45,7 +47,8 @@ pub(crate) struct Scan<'a> {
 
 impl<'a> Model for Scan<'a> {
     ghost use Rattle.std.specs.Prelude.{◌≡◌, false, length, take};
-    ghost use Rattle.ljpeg_predict.specs.Headers.{IsFrame, chosen_tables, lacks_table};
+    ghost use Rattle.ljpeg_predict.specs.Headers.{chosen_tables, lacks_table};
+    ghost use Rattle.ljpeg_predict.specs.inner.Frames.{IsFrame};
     ghost use Rattle.ljpeg_predict.specs.Scans as spec;
 
     ghost Value = { spec.Scan };

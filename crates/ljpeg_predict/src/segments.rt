@@ -1,7 +1,7 @@
 //! Markers and the segments behind them (ITU-T T.81, B.1.1).
 
 ghost use Rattle.std.specs.Prelude.{◌≡◌, ◌+◌, ◌≤◌, ◌<◌, length, slice_index, IfOk};
-ghost use Rattle.ljpeg_predict.specs.Chain.{Gives};
+ghost use Rattle.ljpeg_predict.specs.inner.Answers.{Gives};
 ghost use Rattle.ljpeg_predict.specs.Segments.{body_at, code_at, kind_of, marker_at, number_at};
 
 use crate::JpegFault;
@@ -22,7 +22,7 @@ pub(crate) enum Kind {
     Scan(FrameHeader),
 }
 
-/// The marker at the front, and the bytes behind it.
+/// The marker that bytes begin with, and the bytes behind it.
 #[tactic(auto, unfolding(crate::specs::Segments::marker_at))]
 pub(crate) fn read_marker(bytes: &[u8]) -> Result<(u8, &[u8]), JpegFault>
     ensures gives { Gives (λ found. (found.0, found.1.now)) result (marker_at bytes.now) }

@@ -11,12 +11,14 @@ unfolding bits_of file_order sample_bits
 twelve_bits = refl
 
 -- 80 FF spells the sample 101 in nine digits, and seven ones after it
-nine_bits : byte_bits (0x80 ∷ 0xFF ∷ []) ≡ flat_map (sample_bits Big 9) (0x101 ∷ []) ++ true ∷ true ∷ true ∷ true ∷ true ∷ true ∷ true ∷ []
+nine_bits : byte_bits (0x80 ∷ 0xFF ∷ []) ≡ flat_map (sample_bits Big 9) (0x101 ∷ []) ++ true ∷ true ∷ true ∷ true ∷ true
+    ∷ true ∷ true ∷ []
 unfolding bits_of file_order sample_bits
 nine_bits = refl
 
 -- two rows of three samples of 12 bits, with four digits after each
-two_rows : unpacked Little 12 2 3 (0x12 ∷ 0x34 ∷ 0x56 ∷ 0x78 ∷ 0x9F ∷ 0xAB ∷ 0xCD ∷ 0xEF ∷ 0x01 ∷ 0x20 ∷ []) ≡ 0x123 ∷ 0x456 ∷ 0x789 ∷ 0xABC ∷ 0xDEF ∷ 0x012 ∷ []
+two_rows : unpacked Little 12 2 3 (0x12 ∷ 0x34 ∷ 0x56 ∷ 0x78 ∷ 0x9F ∷ 0xAB ∷ 0xCD ∷ 0xEF ∷ 0x01 ∷ 0x20 ∷ [])
+    ≡ 0x123 ∷ 0x456 ∷ 0x789 ∷ 0xABC ∷ 0xDEF ∷ 0x012 ∷ []
 unfolding bits_of number_of file_order row_sample unpacked
 two_rows = refl
 

@@ -1,3 +1,4 @@
+pub mod BytePairs
 mod Examples
 pub mod FileOrder
 pub mod Formula
@@ -5,4 +6,3 @@ pub mod GroupRows
 pub mod OneSpelling
 pub mod Rows
 pub mod Unpacking
-pub mod Words

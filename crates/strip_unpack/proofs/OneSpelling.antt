@@ -1,5 +1,6 @@
 -- Bytes spell exactly one list of samples.
-use Rattle.std.proofs.Common.{◌≡◌, ℕ, zero, suc, ◌+◌, ◌*◌, ◌^◌, ◌<◌, ◌≤◌, Bool, List, [], ◌∷◌, ◌++◌, All, length, take, refl, sym, ◌∙◌, arith, append_assoc}
+use Rattle.std.proofs.Common.{◌≡◌, ℕ, zero, suc, ◌+◌, ◌*◌, ◌^◌, ◌<◌, ◌≤◌, Bool, List, [], ◌∷◌, ◌++◌, All, length, take}
+use Rattle.std.proofs.Common.{refl, sym, ◌∙◌, arith, append_assoc}
 use Rattle.std.specs.List.{flat_map}
 use Rattle.std.proofs.lemmas.List.{take_all}
 use Rattle.std.proofs.lemmas.List.Elements.{All-head, All-tail}
@@ -11,7 +12,8 @@ use Rattle.strip_unpack.proofs.FileOrder.{IsCode, sample_code}
 use Rattle.strip_unpack.proofs.Rows.{length_part}
 
 -- two rows of as many samples that have the same digits are one
-same_row : (f : ℕ → List Bool) (depth : ℕ) → IsCode f depth → (xs ys : List ℕ) (p q : List Bool) → length xs ≡ length ys → All (λ x. x < 2 ^ depth) xs → All (λ x. x < 2 ^ depth) ys → flat_map f xs ++ p ≡ flat_map f ys ++ q → xs ≡ ys
+same_row : (f : ℕ → List Bool) (depth : ℕ) → IsCode f depth → (xs ys : List ℕ) (p q : List Bool) → length xs ≡ length ys
+    → All (λ x. x < 2 ^ depth) xs → All (λ x. x < 2 ^ depth) ys → flat_map f xs ++ p ≡ flat_map f ys ++ q → xs ≡ ys
 same_row f depth code [] [] p q long hx hy e = refl
 same_row f depth code [] (y ∷ ys) p q long hx hy e = absurd (omega arith)
 same_row f depth code (x ∷ xs) [] p q long hx hy e = absurd (omega arith)
@@ -24,7 +26,8 @@ same_row f depth code (x ∷ xs) (y ∷ ys) p q long hx hy e =
     cc
 
 -- lists whose parts are equal are equal as far as the parts go
-same_parts : (n rows : ℕ) (xs ys : List ℕ) → ((k : ℕ) → k < rows → part_at n k xs ≡ part_at n k ys) → (k : ℕ) → k ≤ rows → take (k * n) xs ≡ take (k * n) ys
+same_parts : (n rows : ℕ) (xs ys : List ℕ) → ((k : ℕ) → k < rows → part_at n k xs ≡ part_at n k ys) → (k : ℕ) → k ≤ rows
+    → take (k * n) xs ≡ take (k * n) ys
 same_parts n rows xs ys same zero h = let none : 0 * n ≡ 0 = omega arith in rw none refl
 same_parts n rows xs ys same (suc k) h =
     let next : suc k * n ≡ k * n + n = omega arith in
@@ -33,12 +36,17 @@ same_parts n rows xs ys same (suc k) h =
     rw (next, take-add, take-add) cc
 
 -- the samples that bytes spell are the only ones
-pub same_spelled : (order : Order) (depth rows cols : ℕ) (xs ys bytes : List ℕ) → depth ≤ 16 → SpellsRows order depth rows cols xs bytes → SpellsRows order depth rows cols ys bytes → xs ≡ ys
+pub same_spelled : (order : Order) (depth rows cols : ℕ) (xs ys bytes : List ℕ) → depth ≤ 16
+    → SpellsRows order depth rows cols xs bytes → SpellsRows order depth rows cols ys bytes → xs ≡ ys
 same_spelled order depth rows cols xs ys bytes most sx sy =
     let code = sample_code order depth most in
     let parts : (k : ℕ) → k < rows → part_at cols k xs ≡ part_at cols k ys = λ k h.
     let a = sx.row k h in
     let b = sy.row k h in
-    let long : length (part_at cols k xs) ≡ length (part_at cols k ys) = length_part cols k rows xs h (omega (arith, sx.count)) ∙ sym (length_part cols k rows ys h (omega (arith, sy.count))) in
-    same_row (sample_bits order depth) depth code _ _ a.padding b.padding long a.fits b.fits (sym a.spelled ∙ b.spelled) in
-    sym (take_all (rows * cols) xs (omega (arith, sx.count))) ∙ same_parts cols rows xs ys parts rows (omega arith) ∙ take_all (rows * cols) ys (omega (arith, sy.count))
+    let long : length (part_at cols k xs) ≡ length (part_at cols k ys) =
+    length_part cols k rows xs h (omega (arith, sx.count))
+    ∙ sym (length_part cols k rows ys h (omega (arith, sy.count))) in
+    same_row (sample_bits order depth) depth code _ _ a.padding b.padding long a.fits b.fits
+    (sym a.spelled ∙ b.spelled) in
+    sym (take_all (rows * cols) xs (omega (arith, sx.count))) ∙ same_parts cols rows xs ys parts rows (omega arith)
+    ∙ take_all (rows * cols) ys (omega (arith, sy.count))

@@ -1,5 +1,6 @@
 -- Rows one after the other, in a list that is cut into parts.
-use Rattle.std.proofs.Common.{◌≡◌, ℕ, ◌+◌, ◌-◌, ◌*◌, ◌<◌, ◌≤◌, List, [], ◌++◌, length, length-append, length-drop, take, drop, sym, ap, ◌∙◌, arith}
+use Rattle.std.proofs.Common.{◌≡◌, ℕ, ◌+◌, ◌-◌, ◌*◌, ◌<◌, ◌≤◌, List, [], ◌++◌, length, length-append, length-drop, take}
+use Rattle.std.proofs.Common.{drop, sym, ap, ◌∙◌, arith}
 use Rattle.std.proofs.lemmas.List.{append-nil, drop_all, drop-take, drop_at, length-take, length-take-le, take_at}
 use Rattle.std.proofs.lemmas.Slice.{take-put_mid_below}
 use Rattle.std.proofs.Math.Nat.{mul-le-mul_right}
@@ -7,13 +8,15 @@ use borrow.Rule.Slice.PartMut.{put_mid}
 use Rattle.strip_unpack.specs.Samples.{part_at}
 
 -- each part has its length
-pub length_part : {A : Type 0} (n k rows : ℕ) (xs : List A) → k < rows → rows * n ≤ length xs → length (part_at n k xs) ≡ n
+pub length_part : {A : Type 0} (n k rows : ℕ) (xs : List A) → k < rows → rows * n ≤ length xs
+    → length (part_at n k xs) ≡ n
 length_part n k rows xs h long =
     let more : (k + 1) * n ≤ rows * n = mul-le-mul_right n (omega arith) in
     simp (length-take, length-drop) (omega arith)
 
 -- a write to part k leaves the parts before it
-pub part_before : (n k m j : ℕ) (xs ys : List ℕ) → j < k → k * n ≤ length xs → part_at n j (put_mid (k * n) m xs ys) ≡ part_at n j xs
+pub part_before : (n k m j : ℕ) (xs ys : List ℕ) → j < k → k * n ≤ length xs
+    → part_at n j (put_mid (k * n) m xs ys) ≡ part_at n j xs
 part_before n k m j xs ys h within =
     let less : (j + 1) * n ≤ k * n = mul-le-mul_right n (omega arith) in
     sym (drop-take (j * n) n (put_mid (k * n) m xs ys))
@@ -21,13 +24,16 @@ part_before n k m j xs ys h within =
     ∙ drop-take (j * n) n xs
 
 -- part k is what was written to it
-pub part_written : (n k m : ℕ) (xs ys : List ℕ) → length ys ≡ n → k * n ≤ length xs → part_at n k (put_mid (k * n) m xs ys) ≡ ys
+pub part_written : (n k m : ℕ) (xs ys : List ℕ) → length ys ≡ n → k * n ≤ length xs
+    → part_at n k (put_mid (k * n) m xs ys) ≡ ys
 part_written n k m xs ys long within =
     let rest = ys ++ drop m (drop (k * n) xs) in
-    ap (take n) (drop_at (take (k * n) xs) rest (k * n) (length-take-le (k * n) xs within)) ∙ take_at ys (drop m (drop (k * n) xs)) n long
+    ap (take n) (drop_at (take (k * n) xs) rest (k * n) (length-take-le (k * n) xs within))
+    ∙ take_at ys (drop m (drop (k * n) xs)) n long
 
 -- a list whose end was written
-pub end_written : (a : ℕ) (xs rest ys : List ℕ) → length xs ≡ a → put_mid a (length (xs ++ rest) - a) (xs ++ rest) ys ≡ xs ++ ys
+pub end_written : (a : ℕ) (xs rest ys : List ℕ) → length xs ≡ a
+    → put_mid a (length (xs ++ rest) - a) (xs ++ rest) ys ≡ xs ++ ys
 end_written a xs rest ys long =
     let first = take_at xs rest a long in
     let after = drop_at xs rest a long in

@@ -1,12 +1,13 @@
 -- Uncompressed samples as bytes (TIFF 6.0, section 8, "BitsPerSample", and "FillOrder" 1; DNG 1.6, "BitsPerSample").
-use Rattle.std.specs.Prelude.{◌≡◌, ℕ, ◌+◌, ◌*◌, ◌/◌, ◌%◌, ◌^◌, ◌<◌, ◌==◌, if◌then◌else◌, Bool, List, ◌++◌, length, map, take, drop, All}
+use Rattle.std.specs.Prelude.{◌≡◌, ℕ, ◌+◌, ◌*◌, ◌/◌, ◌%◌, ◌^◌, ◌<◌, ◌==◌, if◌then◌else◌, Bool, List, ◌++◌, length, map}
+use Rattle.std.specs.Prelude.{take, drop, All}
 use Rattle.std.specs.List.{flat_map, range_with_len}
 use Rattle.binary_digits.specs.Digits.{bits_of, byte_bits, number_of}
 use Rattle.tiff_dirs.specs.declared.Order.{Order}
 use Rattle.tiff_dirs.specs.declared.Order.TheVariants.{Big, Little}
 
--- the digits of a sample as they stand in a file, from those of its number, and back: at depth 16 the two bytes stand in
--- the file's order, and at a lesser depth the digits stand most significant first in either order
+-- the digits of a sample as they stand in a file, from those of its number, and back: at depth 16 the two bytes stand
+-- in the file's order, and at a lesser depth the digits stand most significant first in either order
 unfoldable pub file_order : Order → ℕ → List Bool → List Bool
 file_order Big depth bits = bits
 file_order Little depth bits = if depth == 16 then drop 8 bits ++ take 8 bits else bits
@@ -37,7 +38,8 @@ part_at n k xs = take n (drop (k * n) xs)
 -- bytes spell rows of samples: each row begins at a byte, right after the row before
 pub record SpellsRows (order : Order) (depth rows cols : ℕ) (samples bytes : List ℕ) : Type 0 where
   pub count : length samples ≡ rows * cols
-  pub row : (k : ℕ) → k < rows → Spells (sample_bits order depth) depth (part_at cols k samples) (part_at (row_bytes depth cols) k bytes)
+  pub row : (k : ℕ) → k < rows
+      → Spells (sample_bits order depth) depth (part_at cols k samples) (part_at (row_bytes depth cols) k bytes)
 
 -- sample i of the bytes of a row
 unfoldable pub row_sample : Order → ℕ → List ℕ → ℕ → ℕ
@@ -46,7 +48,8 @@ row_sample order depth bytes i = number_of (file_order order depth (part_at dept
 -- the samples of rows of bytes, row by row
 unfoldable pub unpacked : Order → (depth rows cols : ℕ) → List ℕ → List ℕ
 unpacked order depth rows cols bytes =
-    map (λ i. row_sample order depth (part_at (row_bytes depth cols) (i / cols) bytes) (i % cols)) (range_with_len 0 (rows * cols))
+    map (λ i. row_sample order depth (part_at (row_bytes depth cols) (i / cols) bytes) (i % cols))
+    (range_with_len 0 (rows * cols))
 
 -- the bytes spell these samples and no others
 pub record HasOneSpelling (order : Order) (depth rows cols : ℕ) (samples bytes : List ℕ) : Type 0 where

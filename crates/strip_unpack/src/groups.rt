@@ -7,23 +7,23 @@ ghost use Rattle.strip_unpack.specs.Samples.{Spells, row_bytes};
 
 use crate::packed::unpack_row;
 
-/// A word with one more byte below it.
+/// A register with one more byte below it.
 #[inline(always)]
-fn with_byte(word: u64, byte: u8) -> u64
-    requires { word < 2 ^ 48 }
-    ensures { result ≡ word * 256 + byte }
+fn with_byte(register: u64, byte: u8) -> u64
+    requires { register < 2 ^ 48 }
+    ensures { result ≡ register * 256 + byte }
 {
-    word << 8 | u64::from(byte)
+    register << 8 | u64::from(byte)
 }
 
-/// So many bits of a word, those below them left out.
+/// So many bits of a register, those below them left out.
 #[inline(always)]
-fn field(word: u64, below: u32, depth: u32) -> u16
+fn field(register: u64, below: u32, depth: u32) -> u16
     requires below { below < 64 }
     requires depth { depth ≤ 16 }
-    ensures { result ≡ word / 2 ^ below % 2 ^ depth }
+    ensures { result ≡ register / 2 ^ below % 2 ^ depth }
 {
-    ((word >> below) & ((1 << depth) - 1)) as u16
+    ((register >> below) & ((1 << depth) - 1)) as u16
 }
 
 /// Unpacks groups of four samples of 10 bits, in five bytes each.
@@ -35,15 +35,15 @@ fn unpack_groups_10(groups: usize, bytes: &[u8], out: &mut [u16])
 {
     for group in 0..groups {
         let at = group * 5;
-        let word = with_byte(u64::from(bytes[at]), bytes[at + 1]);
-        let word = with_byte(word, bytes[at + 2]);
-        let word = with_byte(word, bytes[at + 3]);
-        let word = with_byte(word, bytes[at + 4]);
+        let register = with_byte(u64::from(bytes[at]), bytes[at + 1]);
+        let register = with_byte(register, bytes[at + 2]);
+        let register = with_byte(register, bytes[at + 3]);
+        let register = with_byte(register, bytes[at + 4]);
         let first = group * 4;
-        out[first] = field(word, 30, 10);
-        out[first + 1] = field(word, 20, 10);
-        out[first + 2] = field(word, 10, 10);
-        out[first + 3] = field(word, 0, 10);
+        out[first] = field(register, 30, 10);
+        out[first + 1] = field(register, 20, 10);
+        out[first + 2] = field(register, 10, 10);
+        out[first + 3] = field(register, 0, 10);
     }
 }
 
@@ -66,13 +66,13 @@ fn unpack_groups_12(groups: usize, bytes: &[u8], out: &mut [u16])
 {
     for group in 0..groups {
         let at = group * 3;
-        let word = with_byte(
+        let register = with_byte(
             with_byte(u64::from(bytes[at]), bytes[at + 1]),
             bytes[at + 2],
         );
         let first = group * 2;
-        out[first] = field(word, 12, 12);
-        out[first + 1] = field(word, 0, 12);
+        out[first] = field(register, 12, 12);
+        out[first + 1] = field(register, 0, 12);
     }
 }
 
@@ -95,17 +95,17 @@ fn unpack_groups_14(groups: usize, bytes: &[u8], out: &mut [u16])
 {
     for group in 0..groups {
         let at = group * 7;
-        let word = with_byte(u64::from(bytes[at]), bytes[at + 1]);
-        let word = with_byte(word, bytes[at + 2]);
-        let word = with_byte(word, bytes[at + 3]);
-        let word = with_byte(word, bytes[at + 4]);
-        let word = with_byte(word, bytes[at + 5]);
-        let word = with_byte(word, bytes[at + 6]);
+        let register = with_byte(u64::from(bytes[at]), bytes[at + 1]);
+        let register = with_byte(register, bytes[at + 2]);
+        let register = with_byte(register, bytes[at + 3]);
+        let register = with_byte(register, bytes[at + 4]);
+        let register = with_byte(register, bytes[at + 5]);
+        let register = with_byte(register, bytes[at + 6]);
         let first = group * 4;
-        out[first] = field(word, 42, 14);
-        out[first + 1] = field(word, 28, 14);
-        out[first + 2] = field(word, 14, 14);
-        out[first + 3] = field(word, 0, 14);
+        out[first] = field(register, 42, 14);
+        out[first + 1] = field(register, 28, 14);
+        out[first + 2] = field(register, 14, 14);
+        out[first + 3] = field(register, 0, 14);
     }
 }
 

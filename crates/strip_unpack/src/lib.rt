@@ -36,11 +36,16 @@ impl fmt::Display for Short {
 
 impl Error for Short {}
 
-/// Writes the samples that the bytes spell: `rows` rows of `cols` samples, each sample of `depth` bits, 8 to 16, and each
-/// row from a byte on. At depth 16 a sample is two bytes in the order of the file; at a lesser depth its bits stand most
-/// significant first in either order, and a row ends in any bits up to a whole byte. `out` is `rows * cols` long.
+/// Writes the samples that the bytes spell: `rows` rows of `cols` samples, each sample of `depth` bits, 8 to 16, and
+/// each row from a byte on. At depth 16 a sample is two bytes in the order of the file; at a lesser depth its bits
+/// stand most significant first in either order, and a row ends in any bits up to a whole byte. `out` is `rows * cols`
+/// long.
 ///
 /// Bytes past those that the samples take are not looked at.
+///
+/// # Errors
+///
+/// `Short` where there are fewer bytes than the samples take. `out` is then as it was.
 pub fn unpack(
     bytes: &[u8],
     depth: u32,
@@ -53,7 +58,6 @@ pub fn unpack(
     requires high { depth ≤ 16 }
     requires room { length out.old ≡ rows * cols }
     ensures ok { OnOk result (out.new ≡ unpacked order depth rows cols bytes.now) }
-
     ensures short { IsErr result ↔ (length bytes.now < needed_bytes depth rows cols) }
     ensures lengths { IfErr result (λ e. (e.needed ≡ needed_bytes depth rows cols) × (e.had ≡ length bytes.now)) }
     ensures unchanged { OnErr result (out.new ≡ out.old) }
@@ -79,7 +83,8 @@ pub fn unpack(
 /// The samples that [`unpack`] writes are the only ones that the bytes spell, where the bytes are enough for the rows.
 pub fn one_spelling()
     ensures { (order : FileOrder) (depth rows cols : ℕ) (bytes : List ℕ) → depth ≤ 16
-        → needed_bytes depth rows cols ≤ length bytes → HasOneSpelling order depth rows cols (unpacked order depth rows cols bytes) bytes }
+        → needed_bytes depth rows cols ≤ length bytes
+        → HasOneSpelling order depth rows cols (unpacked order depth rows cols bytes) bytes }
 {}
 
 /// Unpacks one row.
@@ -94,7 +99,7 @@ fn unpack_row(bytes: &[u8], depth: u32, order: Order, out: &mut [u16])
         10 => groups::unpack_row_10(bytes, out),
         12 => groups::unpack_row_12(bytes, out),
         14 => groups::unpack_row_14(bytes, out),
-        16 => unpack_words(bytes, order, out),
+        16 => unpack_byte_pairs(bytes, order, out),
         _ => packed::unpack_row(bytes, depth, out),
     }
 }
@@ -110,7 +115,7 @@ fn unpack_bytes(bytes: &[u8], out: &mut [u16])
 }
 
 /// Unpacks a row of samples of 16 bits.
-fn unpack_words(bytes: &[u8], order: Order, out: &mut [u16])
+fn unpack_byte_pairs(bytes: &[u8], order: Order, out: &mut [u16])
     requires { length bytes.now ≡ 2 * length out.old }
     ensures { Spells (sample_bits order 16) 16 out.new bytes.now }
 {

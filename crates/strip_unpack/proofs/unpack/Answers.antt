@@ -1,4 +1,5 @@
-use Rattle.std.proofs.Common.{ℕ, List, ◌≡◌, ◌+◌, ◌-◌, ◌*◌, ◌≤◌, length, drop, take, below_more, length-drop, sym, ◌∙◌, subst, arith}
+use Rattle.std.proofs.Common.{ℕ, List, ◌≡◌, ◌+◌, ◌-◌, ◌*◌, ◌≤◌, length, drop, take, below_more, length-drop, sym, ◌∙◌}
+use Rattle.std.proofs.Common.{subst, arith}
 use Rattle.std.proofs.lemmas.List.{length-take}
 use Rattle.std.proofs.Math.Nat.{mul-le-mul_left, mul-le-mul_right}
 use Rattle.strip_unpack.specs.Samples.{Spells, part_at, row_bytes, sample_bits}
@@ -40,9 +41,11 @@ returns-clause-ok c =
     let bytes = c.args.bytes.now in
     let width : c.div_ceil-row_length.result ≡ row_bytes depth c.args.cols = omega arith in
     let P : ℕ → Type 0 = λ w. c.args.rows * w ≤ length bytes in
-    formula_alone c.args.order depth c.args.rows c.args.cols bytes l.out c.requires.high (subst P width c.if-bytes-needed.false) (record {
+    formula_alone c.args.order depth c.args.rows c.args.cols bytes l.out c.requires.high
+    (subst P width c.if-bytes-needed.false) (record {
       count = omega arith;
       row = λ k h.
-          let Q : ℕ → Type 0 = λ w. Spells (sample_bits c.args.order depth) depth (part_at c.args.cols k l.out) (part_at w k bytes) in
+          let Q : ℕ → Type 0 = λ w. Spells (sample_bits c.args.order depth) depth (part_at c.args.cols k l.out)
+          (part_at w k bytes) in
           subst Q width (l.invariant k (omega arith));
     })

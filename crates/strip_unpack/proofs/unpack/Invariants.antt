@@ -4,4 +4,5 @@ use Rattle.strip_unpack.proofs.unpack.Given as goal
 
 abbrev pub invariant-loop-row : goal.invariant-loop-row
 invariant-loop-row l =
-    (k : ℕ) → k < l.row → Spells (sample_bits l.order l.depth) l.depth (part_at l.cols k l.out) (part_at l.row_length k l.bytes)
+    (k : ℕ) → k < l.row → Spells (sample_bits l.order l.depth) l.depth (part_at l.cols k l.out)
+    (part_at l.row_length k l.bytes)

@@ -1,7 +1,7 @@
 use Rattle.std.proofs.Common.{◌<◌, ◌∙◌, ℕ, List, length, slice_index, sym, subst, rules}
 use Rattle.std.proofs.lemmas.List.Elements.{All-get_or}
 use Rattle.frame_make.specs.Made.{made_row, made_strip, packed_row}
-use Rattle.frame_make.proofs.Rows.{rows_more, small_row}
+use Rattle.frame_make.proofs.Rows.{one_row_more, small_row}
 use Rattle.frame_make.proofs.strips.packed_strip.Goals as goal
 
 pub loop-row-init : goal.loop-row-init
@@ -18,7 +18,7 @@ append_packed-requires c =
 pub loop-row-preserved : goal.loop-row-preserved
 unfolding made_strip
 loop-row-preserved c =
-    let more = rows_more (λ r. packed_row (made_row c.args.number c.args.w r)) c.loop-row.row in
+    let more = one_row_more (λ r. packed_row (made_row c.args.number c.args.w r)) c.loop-row.row in
     let pushed = c.in_ok-append_packed.ensures in
     let row = c.in_ok-made_row.ensures in
     let value = c.deref.ensures.value in

@@ -13,7 +13,8 @@ returns-then-code-le-SHORT c =
     let says = c.in_ok-code.ensures in
     let whole : c.args.place * 2 ^ 7 % 2 ^ 32 ≡ c.args.place * 2 ^ 7 = mod-eq_of_lt (omega arith) in
     found_short c.args.counts.now c.args.values.now c.args.place code c.if-code-le-SHORT.true says.category
-    (subst (λ w. Contains (code_words c.args.counts.now c.args.values.now) (bits_of code.size (w / 2 ^ (16 - code.size)), code.category)) whole says.found)
+    (subst (λ w. Contains (code_words c.args.counts.now c.args.values.now)
+    (bits_of code.size (w / 2 ^ (16 - code.size)), code.category)) whole says.found)
 
 pub returns-else-code-le-SHORT : goal.returns-else-code-le-SHORT
 returns-else-code-le-SHORT c = nothing_short c.args.counts.now c.args.values.now c.args.place

@@ -7,5 +7,8 @@ loop-place-init c = (refl, λ k. none_short c.args.counts.now c.args.values.now 
 
 pub loop-place-preserved : goal.loop-place-preserved
 loop-place-preserved c =
-    let at = c.loop-place in
-    (length-set _ _ _ ∙ at.invariant.0, more_short c.args.counts.now c.args.values.now at.short at.place c.short_code.result (omega (arith, at.invariant.0)) at.invariant.1 c.short_code.ensures)
+    let at = c.loop-place in (
+      length-set _ _ _ ∙ at.invariant.0,
+      more_short c.args.counts.now c.args.values.now at.short at.place c.short_code.result
+          (omega (arith, at.invariant.0)) at.invariant.1 c.short_code.ensures,
+    )

@@ -1,5 +1,5 @@
 use Rattle.std.proofs.Common.{◌≡◌, ℕ, length, get_or, None}
-use Rattle.ljpeg_huffman.specs.Short.{IsShort}
+use Rattle.ljpeg_huffman.specs.inner.Short.{IsShort}
 use Rattle.ljpeg_huffman.proofs.table.short_codes.Given as goal
 
 abbrev pub invariant-loop-place : goal.invariant-loop-place

@@ -4,8 +4,9 @@ use Rattle.binary_digits.specs.Digits.{bits_of}
 use Rattle.binary_digits.proofs.DigitLemmas.{bits_of-zero}
 use Rattle.ljpeg_huffman.proofs.TurnLemmas.{turn_begins, turn_goes_on}
 use Rattle.ljpeg_predict.specs.Encoding.{difference_at, difference_bits, sample_bits, written_scan}
-use Rattle.ljpeg_predict.specs.Writing.{Adds, AddsLast}
-use Rattle.ljpeg_predict.proofs.EncodeLemmas.{adds_more, adds_more_last, difference_is, sample_bits-more, sample_bits-none}
+use Rattle.ljpeg_predict.specs.inner.Writing.{Adds, AddsLast}
+use Rattle.ljpeg_predict.proofs.EncodeLemmas.{adds_more, adds_more_last, difference_is, sample_bits-more}
+use Rattle.ljpeg_predict.proofs.EncodeLemmas.{sample_bits-none}
 use Rattle.ljpeg_predict.proofs.WriterLemmas.{adds_nothing, kept_all, kept_twice}
 use Rattle.ljpeg_predict.proofs.encoder.write_samples.Goals as goal
 use Rattle.ljpeg_predict.proofs.encoder.write_samples.Goals.{then-column-shape, else-column-shape}
@@ -26,10 +27,16 @@ loop-place-preserved c =
     record {
       bits = λ lines.
           let scan = written_scan shape.precision lines shape.columns shape.predictor [] in
-          let d = difference_is scan samples at.place c.predicted_at-predicted.result (c.predicted_at-predicted.ensures lines) in
-          let bits = subst (λ v. Adds at.out.items c.write_difference.new.out.items (bits_of at.pending.held at.pending.word ++ difference_bits v) c.in_ok-pending.pending) d c.in_ok-pending.ensures.bits in
-          subst (λ bs. Adds c.args.out.now.items c.write_difference.new.out.items bs c.in_ok-pending.pending) (sym (sample_bits-more scan samples at.place))
-          (adds_more c.args.out.now.items at.out.items c.write_difference.new.out.items (sample_bits scan samples at.place) (difference_bits (difference_at scan samples at.place)) at.pending c.in_ok-pending.pending (at.invariant.bits lines) bits);
+          let d = difference_is scan samples at.place c.predicted_at-predicted.result
+          (c.predicted_at-predicted.ensures lines) in
+          let bits = subst (λ v. Adds at.out.items c.write_difference.new.out.items
+          (bits_of at.pending.held at.pending.word ++ difference_bits v) c.in_ok-pending.pending) d
+          c.in_ok-pending.ensures.bits in
+          subst (λ bs. Adds c.args.out.now.items c.write_difference.new.out.items bs c.in_ok-pending.pending)
+          (sym (sample_bits-more scan samples at.place))
+          (adds_more c.args.out.now.items at.out.items c.write_difference.new.out.items
+          (sample_bits scan samples at.place) (difference_bits (difference_at scan samples at.place)) at.pending
+          c.in_ok-pending.pending (at.invariant.bits lines) bits);
       few = c.in_ok-pending.ensures.few;
       column = elim c.if-column-shape.branch [
         | then-column-shape w ↦ w.column-is ∙ turn_goes_on _ _ _ at.invariant.column (omega arith)
@@ -47,5 +54,6 @@ returns-clause-ok c =
     on_ok_weaker c.finish.result
     (λ last. λ lines. let scan = written_scan shape.precision lines shape.columns shape.predictor [] in
     subst (λ n. AddsLast c.args.out.now.items c.finish.new.out.items (sample_bits scan samples n)) all
-    (adds_more_last c.args.out.now.items at.out.items c.finish.new.out.items (sample_bits scan samples at.place) at.pending (at.invariant.bits lines) last))
+    (adds_more_last c.args.out.now.items at.out.items c.finish.new.out.items
+    (sample_bits scan samples at.place) at.pending (at.invariant.bits lines) last))
     c.finish.ensures.ok

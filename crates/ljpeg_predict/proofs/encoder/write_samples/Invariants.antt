@@ -1,12 +1,14 @@
 use Rattle.std.proofs.Common.{◌≡◌, ◌%◌, ◌<◌, ℕ, []}
 use Rattle.ljpeg_predict.specs.Encoding.{sample_bits, written_scan}
-use Rattle.ljpeg_predict.specs.Writing.{Adds, KeepsFront}
+use Rattle.ljpeg_predict.specs.inner.Writing.{Adds, KeepsPrefix}
 use Rattle.ljpeg_predict.proofs.encoder.write_samples.Given as goal
 
 abbrev pub invariant-loop-place : goal.invariant-loop-place
 invariant-loop-place l = record {
-  bits : (lines : ℕ) → Adds l.fn.out.items l.out.items (sample_bits (written_scan l.shape.precision lines l.shape.columns l.shape.predictor []) l.samples l.place) l.pending;
+  bits : (lines : ℕ) → Adds l.fn.out.items l.out.items
+      (sample_bits (written_scan l.shape.precision lines l.shape.columns l.shape.predictor []) l.samples l.place)
+      l.pending;
   few : l.pending.held < 8;
   column : l.column ≡ l.place % l.shape.columns;
-  kept : KeepsFront l.fn.out.items l.out.items;
+  kept : KeepsPrefix l.fn.out.items l.out.items;
 }

@@ -1,7 +1,8 @@
 use Rattle.std.proofs.Common.{Ok, arith, refl, sym, ap, ◌∙◌}
 use Rattle.std.proofs.lemmas.Option.{MatchOption-at_some}
 use Rattle.std.proofs.lemmas.Result.{err_from_is_err_and}
-use Rattle.ljpeg_predict.proofs.HeaderLemmas.{headers_end, headers_next, refused_marker, refused_kind, refused_body, whole_segment, scan_frame}
+use Rattle.ljpeg_predict.proofs.HeaderLemmas.{headers_end, headers_next, refused_marker, refused_kind, refused_body}
+use Rattle.ljpeg_predict.proofs.HeaderLemmas.{whole_segment, scan_frame}
 use Rattle.ljpeg_predict.proofs.headers.read_segments.Goals as goal
 
 pub loop-marker-init : goal.loop-marker-init
@@ -33,7 +34,8 @@ returns-in_err-frame_header-in-Frame c =
     let p = err_from_is_err_and r.result r.ensures.1 in
     rw (p.1, p.2)
     (headers_end _ _ _ _ c.loop-marker.invariant.left
-    (λ next. whole_segment _ _ _ _ _ _ c.in_ok-marker.ensures.gives (sym c.in_ok-kind.ensures ∙ ap Ok c.in-Frame.is) c.in_ok-body.ensures.gives next
+    (λ next. whole_segment _ _ _ _ _ _ c.in_ok-marker.ensures.gives
+    (sym c.in_ok-kind.ensures ∙ ap Ok c.in-Frame.is) c.in_ok-body.ensures.gives next
     (rw (← c.in_err-frame_header-in-Frame.ensures.gives) refl)))
 
 pub returns-in_err-read_tables-in-Tables : goal.returns-in_err-read_tables-in-Tables
@@ -42,7 +44,8 @@ returns-in_err-read_tables-in-Tables c =
     let p = err_from_is_err_and r.result r.ensures.1 in
     rw (p.1, p.2)
     (headers_end _ _ _ _ c.loop-marker.invariant.left
-    (λ next. whole_segment _ _ _ _ _ _ c.in_ok-marker.ensures.gives (sym c.in_ok-kind.ensures ∙ ap Ok c.in-Tables.is) c.in_ok-body.ensures.gives next
+    (λ next. whole_segment _ _ _ _ _ _ c.in_ok-marker.ensures.gives
+    (sym c.in_ok-kind.ensures ∙ ap Ok c.in-Tables.is) c.in_ok-body.ensures.gives next
     (rw c.in_err-read_tables-in-Tables.ensures refl)))
 
 pub returns-in_err-restart_interval-in-RestartInterval : goal.returns-in_err-restart_interval-in-RestartInterval
@@ -51,7 +54,8 @@ returns-in_err-restart_interval-in-RestartInterval c =
     let p = err_from_is_err_and r.result r.ensures.1 in
     rw (p.1, p.2)
     (headers_end _ _ _ _ c.loop-marker.invariant.left
-    (λ next. whole_segment _ _ _ _ _ _ c.in_ok-marker.ensures.gives (sym c.in_ok-kind.ensures ∙ ap Ok c.in-RestartInterval.is) c.in_ok-body.ensures.gives next
+    (λ next. whole_segment _ _ _ _ _ _ c.in_ok-marker.ensures.gives
+    (sym c.in_ok-kind.ensures ∙ ap Ok c.in-RestartInterval.is) c.in_ok-body.ensures.gives next
     (rw (← c.in_err-restart_interval-in-RestartInterval.ensures) refl)))
 
 pub read_scan-requires : goal.read_scan-requires
@@ -63,35 +67,45 @@ pub returns-in-Scan : goal.returns-in-Scan
 returns-in-Scan c =
     rw c.read_scan.ensures
     (headers_end _ _ _ _ c.loop-marker.invariant.left
-    (λ next. whole_segment _ _ _ _ _ _ c.in_ok-marker.ensures.gives (sym c.in_ok-kind.ensures ∙ ap Ok c.in-Scan.is) c.in_ok-body.ensures.gives next refl))
+    (λ next. whole_segment _ _ _ _ _ _ c.in_ok-marker.ensures.gives
+    (sym c.in_ok-kind.ensures ∙ ap Ok c.in-Scan.is) c.in_ok-body.ensures.gives next refl))
 
 pub loop-marker-preserved-in_ok-frame_header-in-Frame : goal.loop-marker-preserved-in_ok-frame_header-in-Frame
 loop-marker-preserved-in_ok-frame_header-in-Frame c = record {
-  left = headers_next _ _ _ _ _ c.loop-marker.invariant.left (omega (arith, c.in_ok-marker.ensures.shorter, c.in_ok-body.ensures.shorter))
-      (λ next. whole_segment _ _ _ _ _ _ c.in_ok-marker.ensures.gives (sym c.in_ok-kind.ensures ∙ ap Ok c.in-Frame.is) c.in_ok-body.ensures.gives next
+  left = headers_next _ _ _ _ _ c.loop-marker.invariant.left
+      (omega (arith, c.in_ok-marker.ensures.shorter, c.in_ok-body.ensures.shorter))
+      (λ next. whole_segment _ _ _ _ _ _ c.in_ok-marker.ensures.gives
+      (sym c.in_ok-kind.ensures ∙ ap Ok c.in-Frame.is) c.in_ok-body.ensures.gives next
       (rw (← c.in_ok-frame_header-in-Frame.ensures.gives) refl));
   whole = c.in_ok-frame_header-in-Frame.ensures.whole;
 }
 
 pub loop-marker-preserved-in_ok-read_tables-in-Tables : goal.loop-marker-preserved-in_ok-read_tables-in-Tables
 loop-marker-preserved-in_ok-read_tables-in-Tables c = record {
-  left = headers_next _ _ _ _ _ c.loop-marker.invariant.left (omega (arith, c.in_ok-marker.ensures.shorter, c.in_ok-body.ensures.shorter))
-      (λ next. whole_segment _ _ _ _ _ _ c.in_ok-marker.ensures.gives (sym c.in_ok-kind.ensures ∙ ap Ok c.in-Tables.is) c.in_ok-body.ensures.gives next
+  left = headers_next _ _ _ _ _ c.loop-marker.invariant.left
+      (omega (arith, c.in_ok-marker.ensures.shorter, c.in_ok-body.ensures.shorter))
+      (λ next. whole_segment _ _ _ _ _ _ c.in_ok-marker.ensures.gives
+      (sym c.in_ok-kind.ensures ∙ ap Ok c.in-Tables.is) c.in_ok-body.ensures.gives next
       (rw c.in_ok-read_tables-in-Tables.ensures refl));
   whole = c.loop-marker.invariant.whole;
 }
 
-pub loop-marker-preserved-in_ok-restart_interval-in-RestartInterval : goal.loop-marker-preserved-in_ok-restart_interval-in-RestartInterval
+pub loop-marker-preserved-in_ok-restart_interval-in-RestartInterval :
+    goal.loop-marker-preserved-in_ok-restart_interval-in-RestartInterval
 loop-marker-preserved-in_ok-restart_interval-in-RestartInterval c = record {
-  left = headers_next _ _ _ _ _ c.loop-marker.invariant.left (omega (arith, c.in_ok-marker.ensures.shorter, c.in_ok-body.ensures.shorter))
-      (λ next. whole_segment _ _ _ _ _ _ c.in_ok-marker.ensures.gives (sym c.in_ok-kind.ensures ∙ ap Ok c.in-RestartInterval.is) c.in_ok-body.ensures.gives next
+  left = headers_next _ _ _ _ _ c.loop-marker.invariant.left
+      (omega (arith, c.in_ok-marker.ensures.shorter, c.in_ok-body.ensures.shorter))
+      (λ next. whole_segment _ _ _ _ _ _ c.in_ok-marker.ensures.gives
+      (sym c.in_ok-kind.ensures ∙ ap Ok c.in-RestartInterval.is) c.in_ok-body.ensures.gives next
       (rw (← c.in_ok-restart_interval-in-RestartInterval.ensures) refl));
   whole = c.loop-marker.invariant.whole;
 }
 
 pub loop-marker-preserved : goal.loop-marker-preserved
 loop-marker-preserved c = record {
-  left = headers_next _ _ _ _ _ c.loop-marker.invariant.left (omega (arith, c.in_ok-marker.ensures.shorter, c.in_ok-body.ensures.shorter))
-      (λ next. whole_segment _ _ _ _ _ _ c.in_ok-marker.ensures.gives (sym c.in_ok-kind.ensures ∙ ap Ok c.in-PassedOver.is) c.in_ok-body.ensures.gives next refl);
+  left = headers_next _ _ _ _ _ c.loop-marker.invariant.left
+      (omega (arith, c.in_ok-marker.ensures.shorter, c.in_ok-body.ensures.shorter))
+      (λ next. whole_segment _ _ _ _ _ _ c.in_ok-marker.ensures.gives
+      (sym c.in_ok-kind.ensures ∙ ap Ok c.in-PassedOver.is) c.in_ok-body.ensures.gives next refl);
   whole = c.loop-marker.invariant.whole;
 }

@@ -1,5 +1,5 @@
 use Rattle.std.proofs.Common.{length, IfSome}
-use Rattle.ljpeg_predict.specs.Headers.{IsFrame}
+use Rattle.ljpeg_predict.specs.inner.Frames.{IsFrame}
 use Rattle.ljpeg_predict.proofs.HeaderLemmas.{HeadersLeft}
 use Rattle.ljpeg_predict.proofs.headers.read_segments.Given as goal
 

@@ -13,8 +13,10 @@ returns-in_err-number c =
 
 pub returns-then-is_empty : goal.returns-then-is_empty
 returns-then-is_empty c =
-    rw c.from.ensures (tables_end _ _ _ _ _ c.loop-number.invariant c.in_ok-number.ensures.shorter c.in_ok-number.ensures.gives (sym c.is_empty.ensures ∙ c.if-is_empty.true))
+    rw c.from.ensures (tables_end _ _ _ _ _ c.loop-number.invariant c.in_ok-number.ensures.shorter
+    c.in_ok-number.ensures.gives (sym c.is_empty.ensures ∙ c.if-is_empty.true))
 
 pub loop-number-preserved : goal.loop-number-preserved
 loop-number-preserved c =
-    rw c.from.ensures (tables_next _ _ _ _ _ c.loop-number.invariant c.in_ok-number.ensures.shorter c.in_ok-number.ensures.gives (sym c.is_empty.ensures ∙ c.if-is_empty.false))
+    rw c.from.ensures (tables_next _ _ _ _ _ c.loop-number.invariant c.in_ok-number.ensures.shorter
+    c.in_ok-number.ensures.gives (sym c.is_empty.ensures ∙ c.if-is_empty.false))

@@ -9,4 +9,5 @@ loop-place-preserved c =
 
 pub returns-clause-first : goal.returns-clause-first
 returns-clause-first c =
-    λ place h. let t = c.loop-place.invariant.done place (omega arith) (omega arith) in t.2 ∙ ap (λ n. (n + get_or c.args.line.now place 0) % 65536) t.1
+    λ place h. let t = c.loop-place.invariant.done place (omega arith) (omega arith) in t.2
+    ∙ ap (λ n. (n + get_or c.args.line.now place 0) % 65536) t.1

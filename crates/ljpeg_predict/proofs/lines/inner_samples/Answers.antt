@@ -10,7 +10,9 @@ loop-place-preserved g c =
     let at = c.loop-place in
     more_so_far _ _ _ _ _ c.predict-predicted.result _ (omega arith) (omega arith)
     (λ k q low h e. let far : k - c.args.step < at.place = omega arith in
-    subst (λ n. g.P.Fn.post c.args.predict (n, (get_or c.args.above.now k 0, (get_or c.args.above.now (k - c.args.step) 0, tt))) q) (sym (stable (k - c.args.step) at.place _ at.line far)) e)
+    subst (λ n. g.P.Fn.post c.args.predict
+    (n, (get_or c.args.above.now k 0, (get_or c.args.above.now (k - c.args.step) 0, tt))) q)
+    (sym (stable (k - c.args.step) at.place _ at.line far)) e)
     c.predict-predicted.ensures refl at.invariant
 
 pub returns-clause-others : goal.returns-clause-others

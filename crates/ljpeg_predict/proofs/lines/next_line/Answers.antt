@@ -1,5 +1,6 @@
 use Rattle.std.proofs.Common.{arith}
-use Rattle.ljpeg_predict.specs.declared.scan.Predictor.TheVariants.{Left, Above, AboveLeft, Plane, LeftAndSlope, AboveAndSlope, Mean}
+use Rattle.ljpeg_predict.specs.declared.scan.Predictor.TheVariants.{Left, Above, AboveLeft, Plane, LeftAndSlope}
+use Rattle.ljpeg_predict.specs.declared.scan.Predictor.TheVariants.{AboveAndSlope, Mean}
 use Rattle.ljpeg_predict.proofs.LineLemmas.{next_line_is}
 use Rattle.ljpeg_predict.proofs.lines.next_line.Goals as goal
 
@@ -19,7 +20,8 @@ pub returns-in-AboveLeft : goal.returns-in-AboveLeft
 returns-in-AboveLeft c =
     let first = c.first_samples.ensures in
     let inner = c.inner_samples-in-AboveLeft.ensures in
-    rw c.in-AboveLeft.is (next_line_is AboveLeft _ _ _ _ _ _ (omega arith) first.first first.others inner.first inner.others)
+    rw c.in-AboveLeft.is (next_line_is AboveLeft _ _ _ _ _ _
+    (omega arith) first.first first.others inner.first inner.others)
 
 pub returns-in-Plane : goal.returns-in-Plane
 returns-in-Plane c =
@@ -31,13 +33,15 @@ pub returns-in-LeftAndSlope : goal.returns-in-LeftAndSlope
 returns-in-LeftAndSlope c =
     let first = c.first_samples.ensures in
     let inner = c.inner_samples-in-LeftAndSlope.ensures in
-    rw c.in-LeftAndSlope.is (next_line_is LeftAndSlope _ _ _ _ _ _ (omega arith) first.first first.others inner.first inner.others)
+    rw c.in-LeftAndSlope.is (next_line_is LeftAndSlope _ _ _ _ _ _
+    (omega arith) first.first first.others inner.first inner.others)
 
 pub returns-in-AboveAndSlope : goal.returns-in-AboveAndSlope
 returns-in-AboveAndSlope c =
     let first = c.first_samples.ensures in
     let inner = c.inner_samples-in-AboveAndSlope.ensures in
-    rw c.in-AboveAndSlope.is (next_line_is AboveAndSlope _ _ _ _ _ _ (omega arith) first.first first.others inner.first inner.others)
+    rw c.in-AboveAndSlope.is (next_line_is AboveAndSlope _ _ _ _ _ _
+    (omega arith) first.first first.others inner.first inner.others)
 
 pub returns-in-Mean : goal.returns-in-Mean
 returns-in-Mean c =

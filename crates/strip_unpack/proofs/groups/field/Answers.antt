@@ -3,4 +3,4 @@ use Rattle.strip_unpack.proofs.Unpacking.{masked}
 use Rattle.strip_unpack.proofs.groups.field.Goals as goal
 
 pub returns : goal.returns
-returns c = masked 64 c.args.depth (c.args.word / 2 ^ c.args.below) (omega arith)
+returns c = masked 64 c.args.depth (c.args.register / 2 ^ c.args.below) (omega arith)

@@ -17,12 +17,21 @@ loop-group-preserved c =
     let byte_2 = c.type_inv.bytes (at + 2) in
     let byte_3 = c.type_inv.bytes (at + 3) in
     let byte_4 = c.type_inv.bytes (at + 4) in
-    let read_1 = next_byte 10 0 0 c.from.result at (at + 1) _ bytes (c.from.ensures ∙ omega arith) refl (omega arith) (omega arith) l.invariant in
-    let read_2 = next_byte 10 8 c.from.result c.with_byte-word.result (at + 1) (at + 2) _ bytes c.with_byte-word.ensures (omega arith) (omega arith) (omega arith) read_1 in
-    let read_3 = next_byte 10 16 c.with_byte-word.result c.with_byte-word-in-loop-group.result (at + 2) (at + 3) _ bytes c.with_byte-word-in-loop-group.ensures (omega arith) (omega arith) (omega arith) read_2 in
-    let read_4 = next_byte 10 24 c.with_byte-word-in-loop-group.result c.with_byte-word-in-loop-group-2.result (at + 3) (at + 4) _ bytes c.with_byte-word-in-loop-group-2.ensures (omega arith) (omega arith) (omega arith) read_3 in
-    let read_5 = next_byte 10 32 c.with_byte-word-in-loop-group-2.result c.with_byte-word-in-loop-group-3.result (at + 4) end _ bytes c.with_byte-word-in-loop-group-3.ensures (omega arith) (omega arith) (omega arith) read_4 in
-    four_fields 10 c.with_byte-word-in-loop-group-3.result (l.group * 4) ((l.group + 1) * 4) _ _ _ _ l.out _ (omega arith) (omega arith) c.field.ensures c.field-in-loop-group.ensures c.field-in-loop-group-2.ensures c.field-in-loop-group-3.ensures read_5
+    let read_1 = next_byte 10 0 0 c.from.result at (at + 1) _ bytes (c.from.ensures ∙ omega arith) refl (omega arith)
+    (omega arith) l.invariant in
+    let read_2 = next_byte 10 8 c.from.result c.with_byte-register.result (at + 1)
+    (at + 2) _ bytes c.with_byte-register.ensures (omega arith) (omega arith) (omega arith) read_1 in
+    let read_3 = next_byte 10 16 c.with_byte-register.result c.with_byte-register-in-loop-group.result (at + 2)
+    (at + 3) _ bytes c.with_byte-register-in-loop-group.ensures (omega arith) (omega arith) (omega arith) read_2 in
+    let read_4 = next_byte 10 24 c.with_byte-register-in-loop-group.result c.with_byte-register-in-loop-group-2.result
+    (at + 3) (at + 4) _ bytes c.with_byte-register-in-loop-group-2.ensures (omega arith) (omega arith)
+    (omega arith) read_3 in
+    let read_5 = next_byte 10 32 c.with_byte-register-in-loop-group-2.result c.with_byte-register-in-loop-group-3.result
+    (at + 4) end _ bytes c.with_byte-register-in-loop-group-3.ensures (omega arith) (omega arith)
+    (omega arith) read_4 in
+    four_fields 10 c.with_byte-register-in-loop-group-3.result (l.group * 4) ((l.group + 1) * 4) _ _ _ _ l.out _
+    (omega arith) (omega arith) c.field.ensures c.field-in-loop-group.ensures c.field-in-loop-group-2.ensures
+    c.field-in-loop-group-3.ensures read_5
 
 pub returns-clause-spelled : goal.returns-clause-spelled
 returns-clause-spelled c =

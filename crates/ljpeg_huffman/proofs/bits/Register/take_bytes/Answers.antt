@@ -7,5 +7,8 @@ returns-in_default-clause-enough c = inr (data_bits-end c.loop-self.self.bytes.n
 
 pub loop-self-preserved : goal.loop-self-preserved
 loop-self-preserved c =
-    let self = c.loop-self.self in
-    (bits_left-push self.held self.word c.in-Some.byte self.bytes.now c.in-Some.rest.now (omega arith) (omega arith) c.in-Some.ensures ∙ c.loop-self.invariant.0, omega arith)
+    let self = c.loop-self.self in (
+      bits_left-push self.held self.word c.in-Some.byte self.bytes.now c.in-Some.rest.now (omega arith)
+          (omega arith) c.in-Some.ensures ∙ c.loop-self.invariant.0,
+      omega arith,
+    )

@@ -3,14 +3,18 @@ use Rattle.ljpeg_predict.proofs.WriterLemmas.{adds_byte, adds_nothing, joined, j
 use Rattle.ljpeg_predict.proofs.writer.Pending.push.Goals as goal
 
 pub overflow_mul-word : goal.overflow_mul-word
-overflow_mul-word c = let fits = joined_fits c.args.self.word c.args.size c.args.number c.requires.size c.requires.number in omega arith
+overflow_mul-word c = let fits =
+    joined_fits c.args.self.word c.args.size c.args.number c.requires.size c.requires.number in omega arith
 
 pub overflow_add-word : goal.overflow_add-word
-overflow_add-word c = let fits = joined_fits c.args.self.word c.args.size c.args.number c.requires.size c.requires.number in omega arith
+overflow_add-word c = let fits =
+    joined_fits c.args.self.word c.args.size c.args.number c.requires.size c.requires.number in omega arith
 
 pub loop-held-init : goal.loop-held-init
 loop-held-init c = record {
-  bits = adds_nothing _ _ _ _ (joined c.args.self.held c.args.self.word c.args.size c.args.number c.requires.held c.requires.size c.requires.number);
+  bits = adds_nothing _ _ _ _
+      (joined c.args.self.held c.args.self.word c.args.size c.args.number c.requires.held c.requires.size
+      c.requires.number);
   kept = kept_all _;
   short = omega arith;
   narrow = joined_fits c.args.self.word c.args.size c.args.number c.requires.size c.requires.number;
@@ -20,7 +24,8 @@ pub loop-held-preserved : goal.loop-held-preserved
 loop-held-preserved c =
     let at = c.loop-held in
     record {
-      bits = adds_byte _ _ _ _ _ at.held (at.held - 8) _ (omega arith) at.invariant.bits refl c.in_ok-push_byte.ensures.ok;
+      bits = adds_byte _ _ _ _ _ at.held (at.held - 8) _
+          (omega arith) at.invariant.bits refl c.in_ok-push_byte.ensures.ok;
       kept = kept_twice _ _ _ at.invariant.kept c.in_ok-push_byte.ensures.kept;
       short = omega arith;
       narrow = at.invariant.narrow;

@@ -1,12 +1,13 @@
 use Rattle.std.proofs.Common.{◌++◌, ◌≤◌, ◌<◌, ◌^◌}
 use Rattle.binary_digits.specs.Digits.{bits_of}
-use Rattle.ljpeg_predict.specs.Writing.{Adds, KeepsFront}
+use Rattle.ljpeg_predict.specs.inner.Writing.{Adds, KeepsPrefix}
 use Rattle.ljpeg_predict.proofs.writer.Pending.push.Given as goal
 
 abbrev pub invariant-loop-held : goal.invariant-loop-held
 invariant-loop-held l = record {
-  bits : Adds l.fn.out.items l.out.items (bits_of l.fn.self.held l.fn.self.word ++ bits_of l.size l.number) (record { word = l.word; held = l.held });
-  kept : KeepsFront l.fn.out.items l.out.items;
+  bits : Adds l.fn.out.items l.out.items (bits_of l.fn.self.held l.fn.self.word ++ bits_of l.size l.number)
+      (record { word = l.word; held = l.held });
+  kept : KeepsPrefix l.fn.out.items l.out.items;
   short : l.held ≤ 31;
   narrow : l.word < 2 ^ 32;
 }

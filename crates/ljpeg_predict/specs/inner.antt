@@ -1,0 +1,5 @@
+-- Words for the contracts between functions of this crate.
+pub mod Answers
+pub mod Frames
+pub mod Lines
+pub mod Writing
