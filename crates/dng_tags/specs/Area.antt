@@ -1,6 +1,7 @@
 -- The groups of the active area, of the size at demosaicing and of the default crop (DNG 1.6, chapter 4, "ActiveArea",
 -- "DefaultCropOrigin", "DefaultCropSize"). The rounding and the smallest size are this project's own.
-use Rattle.std.specs.Prelude.{ℕ, ◌≤ℤ◌, neg_ℤ, nat_le, nat_lt, ◌&&◌, if◌then◌else◌, ℤ, pos, ◌+ℤ◌, ◌-ℤ◌, int_lt, Bool, List, slice_index, slice_index_or, Option, None, Some, Result, Ok, Err, unwrap_or, unsigned_abs}
+use Rattle.std.specs.Prelude.{ℕ, nat_le, nat_lt, ◌&&◌, if◌then◌else◌, ℤ, pos, ◌+ℤ◌, ◌-ℤ◌, int_lt, Bool, List}
+use Rattle.std.specs.Prelude.{slice_index, slice_index_or, Option, None, Some, Result, Ok, Err, unwrap_or, unsigned_abs}
 use Rattle.std.specs.Int.{int_div_euclid, int_max, int_min}
 use Rattle.std.specs.Option.{option_map_or}
 use Rattle.plane_view.specs.Rectangles.{whole_rect}
@@ -23,7 +24,7 @@ rect_in xs =
 abbrev pub has_pixels : Rect → Bool
 has_pixels rect = nat_lt rect.top rect.bottom && nat_lt rect.left rect.right
 
--- the active area, in the plane that list 1 leaves: the whole plane where nothing is told
+-- the active area, in the plane that list 1 leaves: the whole plane where the tag is absent
 unfoldable pub active_of : Dirs → Shape → Result Rect FrameFault
 active_of dirs shape =
     and_then (numbers_of dirs ActiveArea) (λ found.
@@ -73,7 +74,7 @@ crop_rect rows cols origin size =
 abbrev pub rest_of : (rows cols : ℕ) → Extent → Extent
 rest_of rows cols origin = record { across = pos cols -ℤ origin.across; down = pos rows -ℤ origin.down }
 
--- the default crop of a plane: all that is right of and below its origin where no size is told
+-- the default crop of a plane: all that is to the right of its origin and below it where the size is absent
 unfoldable pub crop_of : Dirs → (rows cols : ℕ) → Result Rect FrameFault
 crop_of dirs rows cols =
     and_then (extent_of dirs DefaultCropOrigin) (λ place.
@@ -81,10 +82,3 @@ crop_of dirs rows cols =
     and_then (extent_of dirs DefaultCropSize) (λ size.
     let crop = crop_rect rows cols origin (unwrap_or size (rest_of rows cols origin)) in
     if has_pixels crop then Ok crop else Err Crop))
-
--- a place or a size none of whose numbers is beyond a limit
-pub record IsBelow (limit : ℕ) (extent : Extent) : Type 0 where
-  pub across_low : neg_ℤ (pos limit) ≤ℤ extent.across
-  pub across_high : extent.across ≤ℤ pos limit
-  pub down_low : neg_ℤ (pos limit) ≤ℤ extent.down
-  pub down_high : extent.down ≤ℤ pos limit

@@ -1,7 +1,9 @@
 -- The levels of black and white (DNG 1.6, chapter 4, "LinearizationTable", "BlackLevelRepeatDim", "BlackLevel",
--- "BlackLevelDeltaH", "BlackLevelDeltaV", "WhiteLevel", and chapter 5, "Mapping Raw Values to Linear Reference Values").
--- Levels in 256ths and their limits are this project's own.
-use Rattle.std.specs.Prelude.{ℕ, ◌+◌, ◌-◌, ◌*◌, ◌/◌, ◌%◌, ◌^◌, ◌==◌, nat_le, ◌&&◌, if◌then◌else◌, ℤ, pos, ◌+ℤ◌, ◌-ℤ◌, int_lt, List, [], ◌∷◌, map, length, slice_index, slice_index_or, Option, None, Some, Result, Ok, Err, unwrap_or, replicate}
+-- "BlackLevelDeltaH", "BlackLevelDeltaV", "WhiteLevel", and chapter 5, "Mapping Raw Values to Linear Reference
+-- Values"). Levels in 256ths and their limits are this project's own.
+use Rattle.std.specs.Prelude.{ℕ, ◌+◌, ◌-◌, ◌*◌, ◌/◌, ◌%◌, ◌^◌, ◌==◌, nat_le, ◌&&◌, if◌then◌else◌, ℤ, pos, ◌+ℤ◌, ◌-ℤ◌}
+use Rattle.std.specs.Prelude.{int_lt, List, [], ◌∷◌, map, length, slice_index, slice_index_or, Option, None, Some}
+use Rattle.std.specs.Prelude.{Result, Ok, Err, unwrap_or, replicate}
 use Rattle.std.specs.Int.{int_max}
 use Rattle.std.specs.List.{range_with_len}
 use Rattle.std.specs.Option.{option_map_or}
@@ -15,9 +17,11 @@ use Rattle.tag_rules.specs.declared.faults.FrameFault.{FrameFault}
 use Rattle.tag_rules.specs.declared.faults.FrameFault.TheVariants.{Levels as LevelsFault}
 use Rattle.dng_tags.specs.declared.record.Levels.{Levels}
 use Rattle.tag_rules.specs.declared.tags.Tag.{Tag}
-use Rattle.tag_rules.specs.declared.tags.Tag.TheVariants.{BlackLevel, BlackLevelDeltaH, BlackLevelDeltaV, BlackLevelRepeatDim, LinearizationTable, WhiteLevel}
+use Rattle.tag_rules.specs.declared.tags.Tag.TheVariants.{BlackLevel, BlackLevelDeltaH, BlackLevelDeltaV}
+use Rattle.tag_rules.specs.declared.tags.Tag.TheVariants.{BlackLevelRepeatDim, LinearizationTable, WhiteLevel}
 
--- the black level at row r, column c of the active area: that of the pattern's place, and what its column and its row add
+-- the black level at row r, column c of the active area: that of the pattern's place, and what its column and its row
+-- add
 abbrev pub black_at : Levels → (r c : ℕ) → ℤ
 black_at levels r c =
     slice_index_or levels.black (r % levels.black_rows * levels.black_cols + c % levels.black_cols) (pos 0)
@@ -54,7 +58,7 @@ repeat_of dirs =
     if nat_le 1 repeat.rows && nat_le repeat.rows 8 && nat_le 1 repeat.cols && nat_le repeat.cols 8
     then Ok repeat else Err LevelsFault)
 
--- levels of which there are this many; where they are absent, so many zeros
+-- levels of which there are `count`; where they are absent, `zero_count` zeros
 abbrev pub levels_or : (count zero_count : ℕ) → Option (List (ℤ × ℤ)) → Result (List ℤ) FrameFault
 levels_or count zero_count None = Ok (replicate zero_count (pos 0))
 levels_or count zero_count (Some qs) =
@@ -63,7 +67,7 @@ levels_or count zero_count (Some qs) =
 unfoldable pub levels_under : Dirs → Tag → (count zero_count : ℕ) → Result (List ℤ) FrameFault
 levels_under dirs tag count zero_count = and_then (fractions_of dirs tag) (λ found. levels_or count zero_count found)
 
--- the white level: that of the first sample; the greatest sample of the depth where nothing is told
+-- the white level: that of the first sample; the greatest sample of the depth where the tag is absent
 unfoldable pub white_of : Dirs → (depth : ℕ) → Result ℕ FrameFault
 white_of dirs depth =
     and_then (number_of dirs WhiteLevel) (λ found.

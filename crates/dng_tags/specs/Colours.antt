@@ -1,6 +1,8 @@
--- The group of the colour tags (DNG 1.6, chapter 4, "ColorMatrix1" to "ForwardMatrix2", and chapter 6, "Mapping Camera Color
--- Space to CIE XYZ Space"). The numbers of parts, their limits, and that a calibration is diagonal are this project's own.
-use Rattle.std.specs.Prelude.{ℕ, ◌+◌, ◌*◌, ◌/◌, ◌==◌, nat_le, ◌&&◌, if◌then◌else◌, ℤ, pos, int_lt, Bool, List, [], ◌∷◌, map, slice_index_or, Option, None, Some, Result, Ok, Err, unsigned_abs}
+-- The group of the colour tags (DNG 1.6, chapter 4, "ColorMatrix1" to "ForwardMatrix2", and chapter 6, "Mapping Camera
+-- Color Space to CIE XYZ Space"). The numbers of parts, their limits, and that a calibration is diagonal are this
+-- project's own.
+use Rattle.std.specs.Prelude.{ℕ, ◌+◌, ◌*◌, ◌/◌, ◌==◌, nat_le, ◌&&◌, if◌then◌else◌, ℤ, pos, int_lt, Bool, List, [], ◌∷◌}
+use Rattle.std.specs.Prelude.{map, slice_index_or, Option, None, Some, Result, Ok, Err, unsigned_abs}
 use Rattle.std.specs.List.{list_all}
 use Rattle.tag_rules.specs.Answers.{and_then}
 use Rattle.tag_rules.specs.Quantities.{colour_scale, on_scale}
@@ -10,7 +12,9 @@ use Rattle.tag_rules.specs.declared.faults.FrameFault.{FrameFault}
 use Rattle.tag_rules.specs.declared.faults.FrameFault.TheVariants.{Colour as ColourFault}
 use Rattle.dng_tags.specs.declared.record.Colour.{Colour}
 use Rattle.tag_rules.specs.declared.tags.Tag.{Tag}
-use Rattle.tag_rules.specs.declared.tags.Tag.TheVariants.{AnalogBalance, AsShotNeutral, CameraCalibration1, CameraCalibration2, ColorMatrix1, ColorMatrix2, ForwardMatrix1, ForwardMatrix2}
+use Rattle.tag_rules.specs.declared.tags.Tag.TheVariants.{AnalogBalance, AsShotNeutral, CameraCalibration1}
+use Rattle.tag_rules.specs.declared.tags.Tag.TheVariants.{CameraCalibration2, ColorMatrix1, ColorMatrix2}
+use Rattle.tag_rules.specs.declared.tags.Tag.TheVariants.{ForwardMatrix1, ForwardMatrix2}
 
 -- the refusal of a colour tag
 abbrev pub colour_fault : Tag → FrameFault

@@ -1,5 +1,6 @@
 -- What holds of the record of each frame that is read. The limits are this project's own.
-use Rattle.std.specs.Prelude.{◌≡◌, ℕ, ◌+◌, ◌*◌, ◌^◌, ◌<◌, ◌≤◌, ℤ, pos, ◌<ℤ◌, ◌⊎◌, All, List, length, slice_get, slice_index, Option, None, Some, IfSome}
+use Rattle.std.specs.Prelude.{◌≡◌, ℕ, ◌+◌, ◌*◌, ◌^◌, ◌<◌, ◌≤◌, ℤ, pos, ◌<ℤ◌, ◌⊎◌, All, List, length, slice_get}
+use Rattle.std.specs.Prelude.{slice_index, Option, None, Some, IfSome}
 use Rattle.plane_view.specs.Rectangles.{HasPixel, IsNonEmpty, LiesIn, height, whole_rect, width}
 use Rattle.plane_view.specs.declared.Shape.{Shape}
 use Rattle.tiff_dirs.specs.Header.{order_of}
@@ -37,12 +38,15 @@ pub record AreParts (shape : Shape) (segments : List Segment) : Type 0 where
   pub some : 1 ≤ length segments
   pub most : length segments ≤ 65536
   pub part : (k : ℕ) (segment : Segment) → slice_get segments k ≡ Some segment → IsPart shape segment
-  pub covered : (r c : ℕ) → r < shape.rows → c < shape.cols → (k : ℕ) × (segment : Segment) × (slice_get segments k ≡ Some segment) × HasPixel segment.rect r c
-  pub apart : (i k : ℕ) (one other : Segment) → slice_get segments i ≡ Some one → slice_get segments k ≡ Some other → (r c : ℕ) → HasPixel one.rect r c → HasPixel other.rect r c → i ≡ k
+  pub covered : (r c : ℕ) → r < shape.rows → c < shape.cols
+      → (k : ℕ) × (segment : Segment) × (slice_get segments k ≡ Some segment) × HasPixel segment.rect r c
+  pub apart : (i k : ℕ) (one other : Segment) → slice_get segments i ≡ Some one → slice_get segments k ≡ Some other
+      → (r c : ℕ) → HasPixel one.rect r c → HasPixel other.rect r c → i ≡ k
 
 -- no segment passes the end of a file of this many bytes
 abbrev pub LieWithin : ℕ → List Segment → Type 0
-LieWithin len segments = (k : ℕ) (segment : Segment) → slice_get segments k ≡ Some segment → segment.at + segment.length ≤ len
+LieWithin len segments = (k : ℕ) (segment : Segment) → slice_get segments k ≡ Some segment
+    → segment.at + segment.length ≤ len
 
 -- a pattern of black levels
 pub record IsBlackPattern (levels : Levels) : Type 0 where
@@ -53,7 +57,7 @@ pub record IsBlackPattern (levels : Levels) : Type 0 where
   pub count : length levels.black ≡ levels.black_rows * levels.black_cols
   pub within : AreWithin 16777216 levels.black
 
--- what so many rows or columns add
+-- what this many rows or columns add
 pub record AreDeltas (deltas : List ℤ) (count : ℕ) : Type 0 where
   pub none_or_all : (length deltas ≡ 0) ⊎ (length deltas ≡ count)
   pub within : AreWithin 16777216 deltas

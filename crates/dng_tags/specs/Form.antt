@@ -1,15 +1,17 @@
 -- The second group: what kind of image it is (TIFF 6.0, section 8, "PhotometricInterpretation", "Compression",
--- "SamplesPerPixel", "BitsPerSample", "ImageWidth", "ImageLength", and section 19, "SampleFormat"; DNG 1.6, chapter 4, for
--- photometric interpretation 32803 and compression 7). The limits of the image's size are this project's own.
+-- "SamplesPerPixel", "BitsPerSample", "ImageWidth", "ImageLength", and section 19, "SampleFormat"; DNG 1.6, chapter 4,
+-- for photometric interpretation 32803 and compression 7). The limits of the image's size are this project's own.
 use Rattle.std.specs.Prelude.{ℕ, ◌*◌, ◌^◌, ◌==◌, nat_le, ◌&&◌, ◌||◌, if◌then◌else◌, Bool, Result, Ok, Err}
 use Rattle.plane_view.specs.declared.Shape.{Shape}
 use Rattle.tag_rules.specs.Answers.{and_then}
 use Rattle.tag_rules.specs.Values.{Dirs, number_or, required_number_of}
 use Rattle.tag_rules.specs.declared.faults.FrameFault.{FrameFault}
-use Rattle.tag_rules.specs.declared.faults.FrameFault.TheVariants.{Compression as CompressionFault, Depth, Format, Photometric, Samples, Size}
+use Rattle.tag_rules.specs.declared.faults.FrameFault.TheVariants.{Compression as CompressionFault, Depth, Format}
+use Rattle.tag_rules.specs.declared.faults.FrameFault.TheVariants.{Photometric, Samples, Size}
 use Rattle.dng_tags.specs.declared.form.Form.{Form}
 use Rattle.tag_rules.specs.declared.tags.Tag.{Tag}
-use Rattle.tag_rules.specs.declared.tags.Tag.TheVariants.{BitsPerSample, Compression, ImageLength, ImageWidth, PhotometricInterpretation, SampleFormat, SamplesPerPixel}
+use Rattle.tag_rules.specs.declared.tags.Tag.TheVariants.{BitsPerSample, Compression, ImageLength, ImageWidth}
+use Rattle.tag_rules.specs.declared.tags.Tag.TheVariants.{PhotometricInterpretation, SampleFormat, SamplesPerPixel}
 
 -- a colour filter array
 unfoldable pub photometric_of : Dirs → Result ℕ FrameFault

@@ -1,5 +1,5 @@
--- The frame definition: the record of what a file says of its frame, or the first refusal, group by group. The order of the
--- groups is this project's own.
+-- The frame definition: the record of what a file says of its frame, or the first refusal, group by group. The order of
+-- the groups is this project's own.
 use Rattle.std.specs.Prelude.{ℕ, List, Result, Ok}
 use Rattle.tiff_dirs.specs.Header.{order_of}
 use Rattle.tag_rules.specs.Answers.{and_then}

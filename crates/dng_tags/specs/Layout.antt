@@ -1,6 +1,7 @@
 -- The third and fourth groups: the strips or tiles, and that they lie in the file (TIFF 6.0, section 8, "StripOffsets",
 -- "RowsPerStrip", "StripByteCounts", and section 15, "Tiled Images"). The limits are this project's own.
-use Rattle.std.specs.Prelude.{ℕ, ◌+◌, ◌-◌, ◌*◌, ◌/◌, ◌%◌, ◌^◌, ◌≤◌, nat_le, nat_lt, ◌&&◌, if◌then◌else◌, Bool, true, false, List, map, length, slice_index, Option, None, Some, Result, Ok, Err, unwrap_or, min}
+use Rattle.std.specs.Prelude.{ℕ, ◌+◌, ◌-◌, ◌*◌, ◌/◌, ◌%◌, ◌^◌, nat_le, nat_lt, ◌&&◌, if◌then◌else◌, Bool, true, false}
+use Rattle.std.specs.Prelude.{List, map, length, slice_index, Option, None, Some, Result, Ok, Err, unwrap_or, min}
 use Rattle.std.specs.List.{position, range_with_len}
 use Rattle.plane_view.specs.Rectangles.{height}
 use Rattle.plane_view.specs.declared.Rect.{Rect}
@@ -12,7 +13,8 @@ use Rattle.tag_rules.specs.declared.faults.FrameFault.TheVariants.{Layout as Lay
 use Rattle.dng_tags.specs.declared.layout.Cut.{Cut}
 use Rattle.dng_tags.specs.declared.layout.Layout.{Layout}
 use Rattle.dng_tags.specs.declared.record.Segment.{Segment}
-use Rattle.tag_rules.specs.declared.tags.Tag.TheVariants.{RowsPerStrip, StripByteCounts, StripOffsets, TileByteCounts, TileLength, TileOffsets, TileWidth}
+use Rattle.tag_rules.specs.declared.tags.Tag.TheVariants.{RowsPerStrip, StripByteCounts, StripOffsets, TileByteCounts}
+use Rattle.tag_rules.specs.declared.tags.Tag.TheVariants.{TileLength, TileOffsets, TileWidth}
 
 -- how many parts of a size make up a length, the last one maybe smaller
 abbrev pub parts : (length size : ℕ) → ℕ
@@ -49,7 +51,7 @@ tiles_of dirs tile_width =
     and_then (required_numbers_of dirs TileByteCounts) (λ counts.
     Ok (record { cut = record { rows = rows; cols = cols; padded = true }; offsets = offsets; counts = counts }))))))
 
--- the rows of a strip, of which there is at least one: those of the image where nothing is told
+-- the rows of a strip, of which there is at least one: those of the image where the tag is absent
 unfoldable pub strip_rows_of : Dirs → Shape → Result ℕ FrameFault
 strip_rows_of dirs shape =
     and_then (number_of dirs RowsPerStrip) (λ found.
@@ -62,7 +64,11 @@ strips_of dirs shape =
     and_then (required_numbers_of dirs StripOffsets) (λ offsets.
     and_then (strip_rows_of dirs shape) (λ rows.
     and_then (required_numbers_of dirs StripByteCounts) (λ counts.
-    Ok (record { cut = record { rows = rows; cols = shape.cols; padded = false }; offsets = offsets; counts = counts }))))
+    Ok (record {
+      cut = record { rows = rows; cols = shape.cols; padded = false };
+      offsets = offsets;
+      counts = counts;
+    }))))
 
 -- tiles where TileWidth is there, else strips
 abbrev pub tiles_or_strips : Dirs → Shape → Option ℕ → Result Layout FrameFault
@@ -80,7 +86,12 @@ unfoldable pub rect_at : Shape → Cut → ℕ → Rect
 rect_at shape cut k =
     let top = k / segments_across shape cut * cut.rows in
     let left = k % segments_across shape cut * cut.cols in
-    record { top = top; left = left; bottom = min (top + cut.rows) shape.rows; right = min (left + cut.cols) shape.cols }
+    record {
+      top = top;
+      left = left;
+      bottom = min (top + cut.rows) shape.rows;
+      right = min (left + cut.cols) shape.cols;
+    }
 
 -- segment k. A tile is coded at its full size, a strip at the size of its pixels.
 unfoldable pub segment_at : Shape → Layout → ℕ → Segment
@@ -112,18 +123,3 @@ segments_of dirs shape =
     and_then (layout_of dirs shape) (λ layout.
     let segments = segments_in shape layout in
     refused_outside (position (passes_end (length dirs.bytes)) segments) segments)
-
--- sides of a segment
-pub record HasSides (cut : Cut) : Type 0 where
-  pub some_rows : 1 ≤ cut.rows
-  pub rows : cut.rows ≤ 16384
-  pub some_cols : 1 ≤ cut.cols
-  pub cols : cut.cols ≤ 16384
-
--- a layout that was checked
-pub record IsChecked (shape : Shape) (layout : Layout) : Type 0 where
-  pub sides : HasSides layout.cut
-  pub most : segment_count shape layout.cut ≤ 65536
-  pub coded : layout.cut.rows * layout.cut.cols ≤ 2 ^ 25
-  pub offsets : segment_count shape layout.cut ≤ length layout.offsets
-  pub counts : segment_count shape layout.cut ≤ length layout.counts

@@ -10,3 +10,4 @@ pub mod Origin
 pub mod Pattern
 pub mod Raw
 pub mod Span
+pub mod inner

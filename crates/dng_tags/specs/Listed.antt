@@ -1,5 +1,5 @@
--- The groups of the opcode lists (DNG 1.6, chapter 4, "OpcodeList1", "OpcodeList2", "OpcodeList3"): the opcodes of a list,
--- and the plane that its trims leave.
+-- The groups of the opcode lists (DNG 1.6, chapter 4, "OpcodeList1", "OpcodeList2", "OpcodeList3"): the opcodes of a
+-- list, and the plane that its trims leave.
 use Rattle.std.specs.Prelude.{ℕ, List, Result, Ok, Err}
 use Rattle.plane_view.specs.Rectangles.{height, width}
 use Rattle.plane_view.specs.declared.Rect.{Rect}

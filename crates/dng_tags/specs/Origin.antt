@@ -1,7 +1,9 @@
--- The first group: a TIFF file of a DNG version that can be read, and the directory of its raw image (TIFF 6.0, section 2;
--- DNG 1.6, chapter 4, "DNGVersion", "DNGBackwardVersion", "NewSubFileType"; Adobe's TIFF Technical Note 1, "SubIFDs").
--- That the raw image is the first of directory 0 and its SubIFDs whose NewSubFileType is 0 is this project's own.
-use Rattle.std.specs.Prelude.{ℕ, ◌==◌, nat_lt, ◌&&◌, ◌||◌, if◌then◌else◌, Bool, List, [], ◌∷◌, slice_index, Result, Ok, Err}
+-- The first group: a TIFF file of a DNG version that can be read, and the directory of its raw image (TIFF 6.0, section
+-- 2; DNG 1.6, chapter 4, "DNGVersion", "DNGBackwardVersion", "NewSubFileType"; Adobe's TIFF Technical Note 1,
+-- "SubIFDs"). That the raw image is the first of directory 0 and its SubIFDs whose NewSubFileType is 0 is this
+-- project's own.
+use Rattle.std.specs.Prelude.{ℕ, ◌==◌, nat_lt, ◌&&◌, ◌||◌, if◌then◌else◌, Bool, List, [], ◌∷◌, slice_index, Result, Ok}
+use Rattle.std.specs.Prelude.{Err}
 use Rattle.std.specs.Option.{option_map_or}
 use Rattle.tiff_dirs.specs.Header.{directory_of, first_directory, open_of}
 use Rattle.tiff_dirs.specs.declared.TiffFault.{TiffFault}
@@ -18,6 +20,7 @@ abbrev pub as_refusal : TiffFault → FrameFault
 as_refusal NotTiffOfFile = NotTiff
 as_refusal (BadDirectoryOfFile at) = BadDirectory at
 
+-- an answer about a file or a directory, with the frame's fault in place of its own
 abbrev pub refusing : {A : Type 0} → Result A TiffFault → Result A FrameFault
 refusing (Ok value) = Ok value
 refusing (Err fault) = Err (as_refusal fault)
@@ -40,7 +43,7 @@ version_of bytes =
     and_then (numbers_at bytes (first_directory bytes) DngVersion) (λ found.
     and_then (or_refuse found NotDng) (λ xs. Ok (version_in xs)))
 
--- the version that a reader needs: the file's own where none is told
+-- the version that a reader needs: the file's own where the tag is absent
 unfoldable pub needed_version_of : List ℕ → Version → Result Version FrameFault
 needed_version_of bytes version =
     and_then (numbers_at bytes (first_directory bytes) DngBackwardVersion) (λ found.

@@ -1,6 +1,8 @@
--- The raw plane of a frame, and which of its segments can't be decoded (TIFF 6.0, section 8, "StripOffsets", and section 15,
--- "Tiled Images"; DNG 1.6, chapter 4, "BitsPerSample" and "Compression"; ITU-T T.81, annex H). That segments are looked at in their order is this project's own.
-use Rattle.std.specs.Prelude.{ℕ, ◌+◌, ◌-◌, ◌*◌, nat_lt, if◌then◌else◌, List, [], ◌∷◌, length, slice_index, slice_range, Option, None, Some, Result, Ok, Err}
+-- The raw plane of a frame, and which of its segments can't be decoded (TIFF 6.0, section 8, "StripOffsets", and
+-- section 15, "Tiled Images"; DNG 1.6, chapter 4, "BitsPerSample" and "Compression"; ITU-T T.81, annex H). That
+-- segments are looked at in their order is this project's own.
+use Rattle.std.specs.Prelude.{ℕ, ◌+◌, ◌-◌, ◌*◌, nat_lt, if◌then◌else◌, List, [], ◌∷◌, length, slice_index, slice_range}
+use Rattle.std.specs.Prelude.{Option, None, Some, Result, Ok, Err}
 use Rattle.std.specs.Result.{result_err, result_unwrap_or}
 use Rattle.std.specs.List.{find}
 use Rattle.std.specs.Option.{option_map_or}

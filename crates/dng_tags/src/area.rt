@@ -1,11 +1,14 @@
 //! The groups of the active area, of the size at demosaicing and of the default crop.
 
-ghost use Rattle.std.specs.Prelude.{◌≡◌, ◌≤◌, ◌^◌, ℕ, pos, neg_ℤ, ◌+ℤ◌, ◌≤ℤ◌, ◌<ℤ◌, length, unwrap_or, IfOk, IfSome, IsTrue};
+ghost use Rattle.std.specs.Prelude.{◌≡◌, ◌≤◌, ◌^◌, ℕ, pos, neg_ℤ, ◌+ℤ◌, ◌≤ℤ◌, ◌<ℤ◌, length, unwrap_or, IfOk, IfSome};
+ghost use Rattle.std.specs.Prelude.{IsTrue};
 ghost use Rattle.std.specs.Int.{int_div_euclid};
 ghost use Rattle.plane_view.specs.Rectangles.{IsNonEmpty, LiesIn, height, whole_rect, width};
 ghost use Rattle.tiff_dirs.specs.Numbers.{IsOf32Bits};
-ghost use Rattle.dng_tags.specs.Area.{IsBelow, active_of, crop_of, crop_rect, extent_in, extent_of, has_pixels, held_within, large_enough, rect_in, rest_of};
+ghost use Rattle.dng_tags.specs.Area.{active_of, crop_of, crop_rect, extent_in, extent_of, has_pixels, held_within};
+ghost use Rattle.dng_tags.specs.Area.{large_enough, rect_in, rest_of};
 ghost use Rattle.dng_tags.specs.Facts.{IsRawShape};
+ghost use Rattle.dng_tags.specs.inner.Area.{IsBelow};
 ghost use Rattle.tag_rules.specs.Tags.{are_fractions, rule_of};
 
 use plane_view::{Rect, Shape};
@@ -21,7 +24,7 @@ pub struct Extent {
 /// The fewest rows or columns of a plane that is demosaiced.
 const MIN_SIDE: u32 = 4;
 
-/// The active area in the plane that list 1 leaves, which is the whole plane where nothing is told.
+/// The active area in the plane that list 1 leaves, which is the whole plane where the tag is absent.
 ///
 /// # Errors
 ///
@@ -79,7 +82,7 @@ pub fn check_large_enough(shape: Shape) -> Result<Shape, FrameFault>
     Ok(shape)
 }
 
-/// The default crop of a plane, which is the whole plane where nothing is told.
+/// The default crop of a plane, which is the whole plane where its tags are absent.
 ///
 /// # Errors
 ///
@@ -103,7 +106,7 @@ pub fn read_crop(dirs: &Directories<'_>, rows: u32, cols: u32) -> Result<Rect, F
     Ok(crop)
 }
 
-// A place or a size that was told, or its default.
+// A place or a size that was found, or its default.
 fn extent_or(found: Option<Extent>, default: Extent) -> Extent
     ensures value { result ≡ unwrap_or found default }
     ensures below { (limit : ℕ) → IfSome found (IsBelow limit) → IsBelow limit default → IsBelow limit result }

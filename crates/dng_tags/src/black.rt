@@ -1,9 +1,11 @@
 //! The group of the levels of black and white.
 
-ghost use Rattle.std.specs.Prelude.{◌≡◌, ◌-◌, ◌*◌, ◌≤◌, ◌<◌, ◌<ℤ◌, ◌⊎◌, ℕ, ℤ, pos, length, replicate, IfErr, IfOk, IsTrue, Ok, Some};
+ghost use Rattle.std.specs.Prelude.{◌≡◌, ◌-◌, ◌*◌, ◌≤◌, ◌<◌, ◌<ℤ◌, ◌⊎◌, ℕ, ℤ, pos, length, replicate, IfErr, IfOk};
+ghost use Rattle.std.specs.Prelude.{IsTrue, Ok, Some};
 ghost use Rattle.plane_view.specs.Rectangles.{IsNonEmpty, height, width};
 ghost use Rattle.tag_rules.specs.Answers.{Answers};
-ghost use Rattle.dng_tags.specs.Black.{levels_of, levels_or, levels_under, repeat_in, repeat_of, spanning, table_of, white_of};
+ghost use Rattle.dng_tags.specs.Black.{levels_of, levels_or, levels_under, repeat_in, repeat_of, spanning, table_of};
+ghost use Rattle.dng_tags.specs.Black.{white_of};
 ghost use Rattle.dng_tags.specs.Facts.{AreLevels};
 ghost use Rattle.tag_rules.specs.Quantities.{AreWithin, level_scale, on_scale};
 ghost use Rattle.tag_rules.specs.Tags.{are_fractions, rule_of};
@@ -92,7 +94,7 @@ fn read_repeat(dirs: &Directories<'_>) -> Result<Repeat, FrameFault>
     Ok(repeat)
 }
 
-// As many levels as are wanted; where the tag is absent, so many zeros.
+// As many levels as are wanted; where the tag is absent, `zeros` zeros.
 #[tactic(auto, unfolding(crate::specs::Black::levels_under))]
 fn read_list(
     alloc: Global,
@@ -128,7 +130,7 @@ fn levels_in(alloc: Global, fractions: &Fractions<'_>, count: u32) -> Result<Ite
     Ok(Items::from_vec(levels))
 }
 
-// So many zeros.
+// This many zeros.
 fn zero_levels(alloc: Global, count: u32) -> Result<Vec<i32>, FrameFault>
     ensures ok { IfOk result (λ levels. levels.items ≡ replicate count (pos 0)) }
     ensures err { IfErr result (λ fault. fault ≡ MemoryFault) }
@@ -139,7 +141,7 @@ fn zero_levels(alloc: Global, count: u32) -> Result<Vec<i32>, FrameFault>
     }
 }
 
-// The white level, which is the greatest sample of the depth where nothing is told.
+// The white level, which is the greatest sample of the depth where the tag is absent.
 #[tactic(auto, unfolding(crate::specs::Black::white_of))]
 fn read_white(dirs: &Directories<'_>, depth: u32) -> Result<u32, FrameFault>
     requires { depth ≤ 16 }

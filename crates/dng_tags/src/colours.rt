@@ -1,10 +1,13 @@
 //! The group of the colour tags.
 
-ghost use Rattle.std.specs.Prelude.{◌≡◌, ◌*◌, ◌+◌, ◌<ℤ◌, ◌≤◌, ◌<◌, ◌^◌, ℕ, pos, int_lt, length, map, slice_index, slice_index_or, None, Some, IfOk, IfSome, IsTrue, if◌then◌else◌};
+ghost use Rattle.std.specs.Prelude.{◌≡◌, ◌*◌, ◌+◌, ◌<ℤ◌, ◌≤◌, ◌<◌, ◌^◌, ℕ, pos, int_lt, length, map, slice_index};
+ghost use Rattle.std.specs.Prelude.{slice_index_or, None, Some, IfOk, IfSome, IsTrue, if◌then◌else◌};
 ghost use Rattle.std.specs.Bool.{OnTrue};
 ghost use Rattle.std.specs.List.{list_all};
 ghost use Rattle.tiff_dirs.specs.Numbers.{IsOf32Bits};
-ghost use Rattle.dng_tags.specs.Colours.{analog_of, calibration_of, colour_fault, colour_of, colours_in, gain_of, gains_in, gains_of, has_gain, has_zeros, is_diagonal, is_positive, is_zero, matrix_of};
+ghost use Rattle.dng_tags.specs.Colours.{analog_of, calibration_of, colour_fault, colour_of, colours_in, gain_of};
+ghost use Rattle.dng_tags.specs.Colours.{gains_in, gains_of, has_gain, has_zeros, is_diagonal, is_positive, is_zero};
+ghost use Rattle.dng_tags.specs.Colours.{matrix_of};
 ghost use Rattle.dng_tags.specs.Facts.{AreColours, IsMatrix};
 ghost use Rattle.tag_rules.specs.Quantities.{AreWithin};
 ghost use Rattle.tag_rules.specs.Tags.{are_fractions, rule_of};
@@ -153,11 +156,12 @@ fn are_positive(entries: &[i32]) -> bool
     entries.iter().all(|entry| 0 < *entry)
 }
 
-// The gains of the three channels, which are one where no neutral is told.
+// The gains of the three channels, which are one where the neutral is absent.
 #[tactic(auto, unfolding(crate::specs::Colours::gains_of))]
 fn read_gains(dirs: &Directories<'_>) -> Result<[u32; 3], FrameFault>
     ensures answer { result ≡ gains_of dirs.now }
-    ensures range { IfOk result (λ gains. (k : ℕ) → k < 3 → (1 ≤ slice_index gains k) × (slice_index gains k ≤ 1048576)) }
+    ensures range { IfOk result (λ gains. (k : ℕ) → k < 3
+        → (1 ≤ slice_index gains k) × (slice_index gains k ≤ 1048576)) }
 {
     match dirs.fractions(Tag::AsShotNeutral)? {
         Some(neutral) => gains_in(&neutral),
@@ -169,7 +173,8 @@ fn read_gains(dirs: &Directories<'_>) -> Result<[u32; 3], FrameFault>
 fn gains_in(neutral: &Fractions<'_>) -> Result<[u32; 3], FrameFault>
     requires { length neutral.now ≡ 3 }
     ensures answer { result ≡ gains_in (Some neutral.now) }
-    ensures range { IfOk result (λ gains. (k : ℕ) → k < 3 → (1 ≤ slice_index gains k) × (slice_index gains k ≤ 1048576)) }
+    ensures range { IfOk result (λ gains. (k : ℕ) → k < 3
+        → (1 ≤ slice_index gains k) × (slice_index gains k ≤ 1048576)) }
 {
     let mut gains = [0; 3];
     if !fill_gains(neutral, &mut gains) {
@@ -183,8 +188,10 @@ fn fill_gains(neutral: &Fractions<'_>, gains: &mut [u32]) -> bool
     requires green { 2 ≤ length neutral.now }
     requires room { length gains.old ≡ length neutral.now }
     ensures all { result ≡ list_all (has_gain (slice_index_or neutral.now 1 (pos 0, pos 0))) neutral.now }
-    ensures gains { OnTrue result (gains.new ≡ map (gain_of (slice_index_or neutral.now 1 (pos 0, pos 0))) neutral.now) }
-    ensures range { OnTrue result ((k : ℕ) → k < length neutral.now → (1 ≤ slice_index gains.new k) × (slice_index gains.new k ≤ 1048576)) }
+    ensures gains { OnTrue result
+        (gains.new ≡ map (gain_of (slice_index_or neutral.now 1 (pos 0, pos 0))) neutral.now) }
+    ensures range { OnTrue result ((k : ℕ) → k < length neutral.now
+        → (1 ≤ slice_index gains.new k) × (slice_index gains.new k ≤ 1048576)) }
 {
     let green = neutral.at(1);
     for i in 0..neutral.len() {

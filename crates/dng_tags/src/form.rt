@@ -2,7 +2,8 @@
 
 ghost use Rattle.std.specs.Prelude.{◌≡◌, ◌≤◌, IfOk, IsTrue};
 ghost use Rattle.dng_tags.specs.Facts.{IsRawShape};
-ghost use Rattle.dng_tags.specs.Form.{depth_of, form_of, format_of, lossless_of, photometric_of, samples_per_pixel_of, shape_of, side_of};
+ghost use Rattle.dng_tags.specs.Form.{depth_of, form_of, format_of, lossless_of, photometric_of, samples_per_pixel_of};
+ghost use Rattle.dng_tags.specs.Form.{shape_of, side_of};
 ghost use Rattle.tag_rules.specs.Tags.{are_whole, rule_of};
 
 use plane_view::Shape;

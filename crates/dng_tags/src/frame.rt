@@ -26,9 +26,10 @@ pub const MAX_BYTES: u64 = 1 << 28;
 ///
 /// The first refusal, group by group: the file and its directories (`NotTiff`, `BadDirectory`, `NotDng`, `Newer`,
 /// `NoRaw`), the form (`Photometric`, `Compression`, `Samples`, `Depth`, `Format`, `Size`), the segments (`Layout`,
-/// `Outside`), the pattern (`Cfa`), opcode list 1 (`Opcode`, `Trim`), the active area (`Active`), the levels (`Levels`), opcode
-/// list 2, the size at demosaicing (`Size`), opcode list 3, the crop (`Crop`), the colours (`Colour`). In each of them a tag may be refused as
-/// `FloatTag` or `BadEntry`. `Memory` where there was none for the lists.
+/// `Outside`), the pattern (`Cfa`), opcode list 1 (`Opcode`, `Trim`), the active area (`Active`), the levels
+/// (`Levels`), opcode list 2, the size at demosaicing (`Size`), opcode list 3, the crop (`Crop`), the colours
+/// (`Colour`). In each of them a tag may be refused as `FloatTag` or `BadEntry`. `Memory` where the lists are out of
+/// memory.
 #[tactic(auto, unfolding(crate::specs::Frame::frame_of))]
 pub fn read_frame(alloc: Global, bytes: &[u8]) -> Result<Frame, FrameFault>
     requires { length bytes.now ≤ 2 ^ 28 }

@@ -5,7 +5,10 @@ ghost use Rattle.std.specs.List.{position};
 ghost use Rattle.plane_view.specs.Rectangles.{height, width};
 ghost use Rattle.tag_rules.specs.Answers.{Answers};
 ghost use Rattle.dng_tags.specs.Facts.{AreParts, IsRawShape, LieWithin};
-ghost use Rattle.dng_tags.specs.Layout.{HasSides, IsChecked, checked_layout, checked_tile_side, layout_of, parts, passes_end, rect_at, segment_at, segment_count, segments_across, segments_in, segments_of, strip_rows_of, strips_of, tiles_of};
+ghost use Rattle.dng_tags.specs.Layout.{checked_layout, checked_tile_side, layout_of, parts, passes_end, rect_at};
+ghost use Rattle.dng_tags.specs.Layout.{segment_at, segment_count, segments_across, segments_in, segments_of};
+ghost use Rattle.dng_tags.specs.Layout.{strip_rows_of, strips_of, tiles_of};
+ghost use Rattle.dng_tags.specs.inner.Layout.{HasSides, IsChecked};
 
 use crate::record::Segment;
 use lists::Items;
@@ -257,7 +260,7 @@ fn read_strips<'a>(dirs: &Directories<'a>, shape: Shape) -> Result<Layout<'a>, F
     })
 }
 
-// The rows of a strip, which are those of the image where nothing is told.
+// The rows of a strip, which are those of the image where the tag is absent.
 #[tactic(auto, unfolding(crate::specs::Layout::strip_rows_of))]
 fn read_strip_rows(dirs: &Directories<'_>, shape: Shape) -> Result<u32, FrameFault>
     requires { IsRawShape shape }

@@ -24,7 +24,7 @@ pub struct Listed {
 ///
 /// # Errors
 ///
-/// `Opcode`, `Trim`, and what reading the tag is refused for; `Memory` where there was none for the list.
+/// `Opcode`, `Trim`, what reading the tag is refused for, and `Memory` where the list is out of memory.
 #[tactic(auto, unfolding(crate::specs::Listed::listed_of))]
 pub fn read_listed(
     alloc: Global,

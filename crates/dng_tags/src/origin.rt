@@ -1,7 +1,8 @@
 //! The first group: the file, its DNG version, and the directory of its raw image.
 
 ghost use Rattle.std.specs.Prelude.{◌≡◌, ◌<◌, length, IfOk};
-ghost use Rattle.dng_tags.specs.Origin.{first_raw, is_newer, needed_version_of, origin_of, raw_directory_of, refusing, subfile_type_at, tiff_of, version_in, version_of};
+ghost use Rattle.dng_tags.specs.Origin.{first_raw, is_newer, needed_version_of, origin_of, raw_directory_of};
+ghost use Rattle.dng_tags.specs.Origin.{refusing, subfile_type_at, tiff_of, version_in, version_of};
 
 use tag_rules::{Directories, FrameFault, Tag, Whole, whole_in};
 use tiff_dirs::{Dir, Tiff, TiffFault};
@@ -83,7 +84,7 @@ fn read_version<'a>(tiff: &'a Tiff<'a>) -> Result<Version, FrameFault>
     }
 }
 
-// The version that a reader needs, which is the file's own where none is told.
+// The version that a reader needs, which is the file's own where the tag is absent.
 #[tactic(auto, unfolding(crate::specs::Origin::needed_version_of))]
 fn check_needed_version<'a>(tiff: &'a Tiff<'a>, version: Version) -> Result<Version, FrameFault>
     ensures { result ≡ needed_version_of tiff.now version }

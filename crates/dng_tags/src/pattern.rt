@@ -2,7 +2,8 @@
 
 ghost use Rattle.std.specs.Prelude.{◌≡◌, ◌≤◌, length, IfOk, IfSome, IsTrue};
 ghost use Rattle.std.specs.List.{Contains, find};
-ghost use Rattle.dng_tags.specs.Pattern.{are_red_green_blue, colours_of, has_plane_colours, has_square_layout, is_same_pattern, pattern_of, pattern_size_of, patterns};
+ghost use Rattle.dng_tags.specs.Pattern.{are_red_green_blue, colours_of, has_plane_colours, has_square_layout};
+ghost use Rattle.dng_tags.specs.Pattern.{is_same_pattern, pattern_of, pattern_size_of, patterns};
 
 use tag_rules::{Directories, FrameFault, Tag, Whole};
 

@@ -3,7 +3,8 @@
 ghost use Rattle.std.specs.Prelude.{◌≡◌, ◌+◌, ◌*◌, ◌%◌, ◌≤◌, ◌<◌, ◌⊎◌, pos, neg_ℤ, ◌≤ℤ◌, length, slice_index_or};
 ghost use Rattle.dng_tags.specs.Black.{greatest_black, span_of};
 ghost use Rattle.dng_tags.specs.Facts.{AreDeltas, AreRanged, IsBlackPattern};
-ghost use Rattle.dng_tags.specs.Span.{FallsBefore, FallsOn, IsGreatest, IsGreatestBlack, across_at};
+ghost use Rattle.dng_tags.specs.Span.{across_at};
+ghost use Rattle.dng_tags.specs.inner.Span.{FallsBefore, FallsOn, IsGreatest, IsGreatestBlack};
 
 use crate::record::Levels;
 use lists::Items;
@@ -21,7 +22,7 @@ pub fn span(levels: &Levels, rows: u32, cols: u32) -> i64
     i64::from(256 * levels.white) - greatest_black(levels, rows, cols)
 }
 
-/// The greatest black level of an active area of so many rows and columns, in 256ths.
+/// The greatest black level of an active area of this many rows and columns, in 256ths.
 #[tactic(auto, using(crate::proofs::SpanLemmas::black_more, crate::proofs::SpanLemmas::black_first, crate::proofs::SpanLemmas::greatest_black_is))]
 pub fn greatest_black(levels: &Levels, rows: u32, cols: u32) -> i64
     requires some_rows { 1 ≤ rows }
@@ -128,7 +129,8 @@ fn greater_on(deltas: &[i32], first: u32, step: u32, at: usize, k: usize) -> usi
     requires k { k < length deltas.now }
     ensures which { (result ≡ at) ⊎ ((result ≡ k) × (k % step ≡ first)) }
     ensures at_most { slice_index_or deltas.now at (pos 0) ≤ℤ slice_index_or deltas.now result (pos 0) }
-    ensures k_most { k % step ≡ first → slice_index_or deltas.now k (pos 0) ≤ℤ slice_index_or deltas.now result (pos 0) }
+    ensures k_most { k % step ≡ first
+        → slice_index_or deltas.now k (pos 0) ≤ℤ slice_index_or deltas.now result (pos 0) }
 {
     if k % step as usize == first as usize && deltas[at] < deltas[k] {
         k

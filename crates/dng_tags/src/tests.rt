@@ -1,5 +1,5 @@
-// Flat frames of 4 by 4 with changed entries: what is refused, and what the record has. The expected numbers were worked
-// out by hand from the rules of each tag.
+// Flat frames of 4 by 4 with changed entries: what is refused, and what the record has. The expected numbers were
+// worked out by hand from the rules of each tag.
 use super::*;
 use lists::Items;
 use ljpeg_predict::JpegFault;
@@ -381,11 +381,15 @@ fn first_wrong(alloc: Global, rows: &[Row]) -> Result<Option<usize>, AllocError>
 #[test]
 fn refuses(rt: HostRuntime) -> Result<(), Fail> {
     let alloc = rt.alloc();
-    assert_eq!(rt; first_wrong(alloc, first_steps())?, None);
-    assert_eq!(rt; first_wrong(alloc, segments_and_pattern())?, None);
-    assert_eq!(rt; first_wrong(alloc, opcode_lists())?, None);
-    assert_eq!(rt; first_wrong(alloc, levels_and_crop())?, None);
-    assert_eq!(rt; first_wrong(alloc, colours())?, None);
+    for rows in [
+        first_steps(),
+        segments_and_pattern(),
+        opcode_lists(),
+        levels_and_crop(),
+        colours(),
+    ] {
+        assert_eq!(rt; first_wrong(alloc, rows)?, None);
+    }
     assert!(rt; is_refused(read(alloc, b""), F::NotTiff));
     let cut = b"II*\0\x08\0\0\0\x01\0";
     assert!(rt; is_refused(read(alloc, cut), F::BadDirectory { at: 8 }));
@@ -465,6 +469,15 @@ fn segments_are(frame: &Frame, want: &[[u32; 7]]) -> bool {
         })
 }
 
+// Whether the flat frame with these changes has these segments.
+fn is_cut(alloc: Global, changes: &[(u16, Told)], want: &[[u32; 7]]) -> Result<bool, AllocError> {
+    let bytes = changed(alloc, changes, Order::Little)?;
+    match read(alloc, &bytes) {
+        Ok(frame) => Ok(segments_are(&frame, want)),
+        Err(_) => Ok(false),
+    }
+}
+
 #[test]
 fn cuts_images(rt: HostRuntime) -> Result<(), Fail> {
     let alloc = rt.alloc();
@@ -473,16 +486,16 @@ fn cuts_images(rt: HostRuntime) -> Result<(), Fail> {
         (273, Longs(&[8, 9])),
         (279, Longs(&[24, 8])),
     ];
-    let frame = read(alloc, &changed(alloc, &strips, Order::Little)?)?;
-    assert!(rt; segments_are(&frame, &[[24, 0, 0, 3, 4, 3, 4], [8, 3, 0, 4, 4, 1, 4]]));
+    let want = [[24, 0, 0, 3, 4, 3, 4], [8, 3, 0, 4, 4, 1, 4]];
+    assert!(rt; is_cut(alloc, &strips, &want)?);
     let tiles = [
         (322, Shorts(&[3])),
         (323, Shorts(&[16])),
         (324, Longs(&[8, 9])),
         (325, Longs(&[1, 2])),
     ];
-    let frame = read(alloc, &changed(alloc, &tiles, Order::Little)?)?;
-    assert!(rt; segments_are(&frame, &[[1, 0, 0, 4, 3, 16, 3], [2, 0, 3, 4, 4, 16, 3]]));
+    let want = [[1, 0, 0, 4, 3, 16, 3], [2, 0, 3, 4, 4, 16, 3]];
+    assert!(rt; is_cut(alloc, &tiles, &want)?);
     Ok(())
 }
 
@@ -514,45 +527,77 @@ fn says(fault: FrameFault, want: &[u8]) -> bool {
     line.as_bytes() == want
 }
 
+// The faults of a segment whose bytes are too few, and of one whose stream is damaged.
+const SHORT: SegmentFault = SegmentFault::Short(strip_unpack::Short {
+    needed: 32,
+    had: 31,
+});
+
+const NO_START: SegmentFault = SegmentFault::Jpeg(JpegFault::NoStart);
+
+const BASELINE: SegmentFault = SegmentFault::Jpeg(JpegFault::NotLossless { marker: 192 });
+
+// The faults of an opcode that isn't known, and of one with bad parameters.
+const UNKNOWN: OpcodeFault = OpcodeFault::Unknown { index: 0, id: 1 };
+
+const BAD_PARAMS: OpcodeFault = OpcodeFault::BadParams {
+    index: 15,
+    id: u32::MAX,
+};
+
+// Faults, and what each says.
+static TEXTS: [(FrameFault, &[u8]); 9] = [
+    (F::Newer, b"Newer"),
+    (F::Compression { v: 8 }, b"Compression 8"),
+    (
+        F::BadDirectory { at: 4_294_967_280 },
+        b"BadDirectory 4294967280",
+    ),
+    (
+        F::Segment {
+            segment: 0,
+            why: SHORT,
+        },
+        b"Segment 0 Short 32 31",
+    ),
+    (
+        F::Opcode {
+            list: 3,
+            fault: UNKNOWN,
+        },
+        b"Opcode 3 Unknown 0 1",
+    ),
+    (
+        F::Opcode {
+            list: 1,
+            fault: BAD_PARAMS,
+        },
+        b"Opcode 1 BadParams 15 4294967295",
+    ),
+    (F::Trim { list: 2, index: 0 }, b"Trim 2 0"),
+    (
+        F::Segment {
+            segment: 7,
+            why: NO_START,
+        },
+        b"Segment 7 Jpeg NoStart",
+    ),
+    (
+        F::Segment {
+            segment: 65535,
+            why: BASELINE,
+        },
+        b"Segment 65535 Jpeg NotLossless 192",
+    ),
+];
+
+fn texts() -> &'static [(FrameFault, &'static [u8])] {
+    &TEXTS
+}
+
 #[test]
 fn tells_faults(rt: HostRuntime) {
-    assert!(rt; says(F::Newer, b"Newer"));
-    assert!(rt; says(F::Compression { v: 8 }, b"Compression 8"));
-    assert!(rt;
-        says(
-            F::BadDirectory { at: 4_294_967_280 },
-            b"BadDirectory 4294967280"
-        )
-    );
-    let short = strip_unpack::Short {
-        needed: 32,
-        had: 31,
-    };
-    let why = SegmentFault::Short(short);
-    assert!(rt; says(F::Segment { segment: 0, why }, b"Segment 0 Short 32 31"));
-    let fault = OpcodeFault::Unknown { index: 0, id: 1 };
-    assert!(rt; says(F::Opcode { list: 3, fault }, b"Opcode 3 Unknown 0 1"));
-    let fault = OpcodeFault::BadParams {
-        index: 15,
-        id: u32::MAX,
-    };
-    assert!(rt;
-        says(
-            F::Opcode { list: 1, fault },
-            b"Opcode 1 BadParams 15 4294967295"
-        )
-    );
-    assert!(rt; says(F::Trim { list: 2, index: 0 }, b"Trim 2 0"));
-    let why = SegmentFault::Jpeg(JpegFault::NoStart);
-    assert!(rt; says(F::Segment { segment: 7, why }, b"Segment 7 Jpeg NoStart"));
-    let why = SegmentFault::Jpeg(JpegFault::NotLossless { marker: 192 });
-    assert!(rt;
-        says(
-            F::Segment {
-                segment: 65535,
-                why
-            },
-            b"Segment 65535 Jpeg NotLossless 192"
-        )
-    );
+    for (fault, want) in texts() {
+        assert!(rt; says(*fault, want));
+    }
 }

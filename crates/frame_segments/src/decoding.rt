@@ -1,6 +1,7 @@
 //! Segments, decoded into a buffer.
 
-ghost use Rattle.std.specs.Prelude.{◌≡◌, ℕ, ◌+◌, ◌-◌, ◌*◌, ◌<◌, ◌≤◌, ◌^◌, length, slice_get, slice_index, None, Some, take, IfErr, OnOk};
+ghost use Rattle.std.specs.Prelude.{◌≡◌, ℕ, ◌+◌, ◌-◌, ◌*◌, ◌<◌, ◌≤◌, ◌^◌, length, slice_get, slice_index, None, Some};
+ghost use Rattle.std.specs.Prelude.{take, IfErr, OnOk};
 ghost use Rattle.std.specs.Bool.{OnTrue};
 ghost use Rattle.plane_view.specs.Lent.{sample_at};
 ghost use Rattle.plane_view.specs.Rectangles.{HasPixel};
@@ -8,7 +9,7 @@ ghost use Rattle.plane_view.specs.Tiles.{loan, tile_rect, SameLoan};
 ghost use Rattle.ljpeg_predict.specs.Decoded.{decoded};
 ghost use Rattle.dng_tags.specs.Raw.{coded_count, coded_place, fault_from, jpeg_samples, packed_samples, samples_in};
 ghost use Rattle.dng_tags.specs.declared.record.Segment.{Segment as SegmentRecord};
-ghost use Rattle.frame_segments.specs.Buffers.{Fits, Holds, IsCoded, IsCoding, IsCoding-prop, IsDecodable, told};
+ghost use Rattle.frame_segments.specs.inner.Buffers.{Fits, Holds, IsCoded, IsCoding, IsCoding-prop, IsDecodable, told};
 
 use dng_tags::{Coding, FrameFault, Segment, SegmentFault};
 use ljpeg_predict::decode;
@@ -33,7 +34,8 @@ fn coded_count(segment: &Segment) -> usize
 
 /// The most samples that are coded in one of the segments.
 pub(crate) fn largest_count(segments: &[Segment]) -> usize
-    ensures { (k : ℕ) (segment : SegmentRecord) → slice_get segments.now k ≡ Some segment → coded_count segment ≤ result }
+    ensures { (k : ℕ) (segment : SegmentRecord) → slice_get segments.now k ≡ Some segment
+        → coded_count segment ≤ result }
 {
     let mut largest = 0;
     for segment in segments {
@@ -81,7 +83,7 @@ fn decode_stream(bytes: &[u8], out: &mut [u16]) -> Result<(), SegmentFault>
 }
 
 impl<'a> Coded<'a> {
-    /// Decodes a segment into the front of the buffer.
+    /// Decodes a segment into the buffer, from its beginning on.
     pub(crate) fn decode(&self, segment: &Segment, buffer: &mut [u16]) -> Result<(), SegmentFault>
         requires { Fits self.now.bytes.now buffer.old segment.now }
         ensures { samples_in self.now.bytes.now self.now.coding segment.now
@@ -98,7 +100,7 @@ impl<'a> Coded<'a> {
         }
     }
 
-    /// Decodes a segment that can be decoded into the front of the buffer, unless the buffer holds it.
+    /// Decodes a segment that can be decoded into the buffer, from its beginning on, unless the buffer holds it.
     pub(crate) fn bring(&self, segment: &Segment, is_held: bool, buffer: &mut [u16])
         requires fits { Fits self.now.bytes.now buffer.old segment.now }
         requires decodable { IsDecodable self.now.bytes.now self.now.coding segment.now }
@@ -111,7 +113,8 @@ impl<'a> Coded<'a> {
         let _ = self.decode(segment, buffer);
     }
 
-    /// Decodes the segments in their order, each into the front of the buffer, up to the first that can't be decoded.
+    /// Decodes the segments in their order, each into the buffer from its beginning on, up to the first that can't be
+    /// decoded.
     pub(crate) fn decode_all(
         &self,
         segments: &[Segment],
@@ -121,7 +124,8 @@ impl<'a> Coded<'a> {
             → Fits self.now.bytes.now buffer.old segment }
         requires few { length segments.now ≤ 65536 }
         ensures decoded { OnOk result (fault_from self.now.bytes.now self.now.coding 0 segments.now ≡ None) }
-        ensures fault { IfErr result (λ fault. fault_from self.now.bytes.now self.now.coding 0 segments.now ≡ Some fault) }
+        ensures fault { IfErr result
+            (λ fault. fault_from self.now.bytes.now self.now.coding 0 segments.now ≡ Some fault) }
         ensures decodable { OnOk result ((k : ℕ) (segment : SegmentRecord) → slice_get segments.now k ≡ Some segment
             → IsDecodable self.now.bytes.now self.now.coding segment) }
         ensures last { OnOk result ((k : ℕ) (segment : SegmentRecord) → k + 1 ≡ length segments.now
@@ -148,7 +152,8 @@ pub(crate) fn copy_pixels(segment: &Segment, buffer: &[u16], out: &mut TileMut<'
     requires planes { (loan out.old).planes ≡ 1 }
     ensures loan { SameLoan out.old out.new }
     ensures pixels { (r c p : ℕ) → HasPixel segment.now.rect r c → p < 1
-        → sample_at (loan out.new) r c p ≡ slice_index (take (coded_count segment.now) buffer.now) (coded_place segment.now r c) }
+        → sample_at (loan out.new) r c p
+        ≡ slice_index (take (coded_count segment.now) buffer.now) (coded_place segment.now r c) }
 {
     let Rect { top, left, .. } = segment.rect;
     let whole = Rect {

@@ -1,7 +1,8 @@
 //! The segments of a frame, opened.
 
 ghost use Rattle.std.proofs.Common.{rules};
-ghost use Rattle.std.specs.Prelude.{◌≡◌, ◌≢◌, ℕ, ◌+◌, ◌-◌, ◌<◌, ◌≤◌, ◌^◌, length, min, slice_get, None, Some, IfErr, IfOk, OnOk};
+ghost use Rattle.std.specs.Prelude.{◌≡◌, ◌≢◌, ℕ, ◌+◌, ◌-◌, ◌<◌, ◌≤◌, ◌^◌, length, min, slice_get, None, Some, IfErr};
+ghost use Rattle.std.specs.Prelude.{IfOk, OnOk};
 ghost use Rattle.dng_tags.specs.Facts.{IsFrame};
 ghost use Rattle.dng_tags.specs.Raw.{raw, undecoded};
 ghost use Rattle.frame_segments.specs.Opened.{rects_of};
@@ -30,7 +31,7 @@ pub struct Segments<'a> {
 
 impl<'a> Model for Segments<'a> {
     ghost use Rattle.dng_tags.specs.Raw.{segments_plane};
-    ghost use Rattle.frame_segments.specs.Buffers.{AreOpened};
+    ghost use Rattle.frame_segments.specs.inner.Buffers.{AreOpened};
     ghost use Rattle.frame_segments.specs.Opened.{Opened, rects_of};
 
     ghost Value = { Opened };
@@ -45,18 +46,24 @@ impl<'a> Model for Segments<'a> {
 }
 
 impl<'a> Segments<'a> {
-    /// Opens the segments of a frame that was read from these bytes: decodes each of them once, in their order, into one
-    /// buffer as long as the largest, which it keeps.
+    /// Opens the segments of a frame that was read from these bytes: decodes each of them once, in their order, into
+    /// one buffer as long as the largest, which it keeps.
     ///
     /// # Errors
     ///
-    /// `Segment` exactly where a segment can't be decoded, for the first such one; `Memory` where there is no memory.
+    /// `Segment` exactly where a segment can't be decoded, for the first such one; `Memory` where the buffer or the
+    /// list of segments is out of memory.
     pub fn open(alloc: Global, bytes: &'a [u8], frame: &Frame) -> Result<Segments<'a>, FrameFault>
         requires frame { IsFrame frame.now bytes.now }
         ensures opened { IfOk result
-            (λ segments. segments ≡ record { plane = raw bytes.now frame.now; cells = rects_of frame.now.segments; fetches = 0 }) }
+            (λ segments. segments ≡ record {
+              plane = raw bytes.now frame.now;
+              cells = rects_of frame.now.segments;
+              fetches = 0;
+            }) }
         ensures decoded { OnOk result (undecoded bytes.now frame.now ≡ None) }
-        ensures refused { IfErr result (λ fault. fault ≢ FrameFault.Memory → undecoded bytes.now frame.now ≡ Some fault) }
+        ensures refused { IfErr result
+            (λ fault. fault ≢ FrameFault.Memory → undecoded bytes.now frame.now ≡ Some fault) }
     {
         let segments = frame.segments.as_slice();
         let Ok(mut buffer) = vec![in alloc; 0u16; largest_count(segments)] else {

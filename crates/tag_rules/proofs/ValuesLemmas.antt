@@ -15,14 +15,19 @@ pub length_fractions_in : (order : Order) (field : Field) → length (fractions_
 unfolding fractions_in
 length_fractions_in order field = length-map-range_with_len _ 0 field.count
 
-pub number_at_index : (order : Order) (field : Field) (i : ℕ) → i < field.count → get_or (numbers_in order field) i 0 ≡ number_in order field.kind field.value i
+pub number_at_index : (order : Order) (field : Field) (i : ℕ) → i < field.count
+    → get_or (numbers_in order field) i 0 ≡ number_in order field.kind field.value i
 unfolding numbers_in
 number_at_index order field i within = get_or-map-range_with_len _ 0 field.count i i 0 within (omega arith)
 
-pub fraction_at_index : (order : Order) (field : Field) (i : ℕ) → i < field.count → get_or (fractions_in order field) i (pos 0, pos 0) ≡ rational_in order field.kind field.value i
+pub fraction_at_index : (order : Order) (field : Field) (i : ℕ) → i < field.count
+    → get_or (fractions_in order field) i (pos 0, pos 0) ≡ rational_in order field.kind field.value i
 unfolding fractions_in
-fraction_at_index order field i within = get_or-map-range_with_len _ 0 field.count i i (pos 0, pos 0) within (omega arith)
+fraction_at_index order field i within =
+    get_or-map-range_with_len _ 0 field.count i i (pos 0, pos 0) within (omega arith)
 
 -- one more number
-pub numbers_more : (order : Order) (kind : ℕ) (value : List ℕ) (i : ℕ) → map (number_in order kind value) (range_with_len 0 (i + 1)) ≡ map (number_in order kind value) (range_with_len 0 i) ++ number_in order kind value i ∷ []
+pub numbers_more : (order : Order) (kind : ℕ) (value : List ℕ) (i : ℕ)
+    → map (number_in order kind value) (range_with_len 0 (i + 1))
+    ≡ map (number_in order kind value) (range_with_len 0 i) ++ number_in order kind value i ∷ []
 numbers_more order kind value i = map-range_with_len_more (number_in order kind value) 0 i i (omega arith)

@@ -14,7 +14,7 @@ abbrev pub or_refuse : {A : Type 0} → Option A → FrameFault → Result A Fra
 or_refuse (Some value) fault = Ok value
 or_refuse None fault = Err fault
 
--- what a call that takes memory answers: its definition's answer, or that there was no memory
+-- what a call that takes memory answers: its definition's answer, or that it is out of memory
 abbrev pub Answers : {A : Type 0} → Result A FrameFault → Result A FrameFault → Type 0
 Answers (Ok value) want = want ≡ Ok value
 Answers (Err fault) want = fault ≢ Memory → want ≡ Err fault

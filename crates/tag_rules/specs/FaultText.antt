@@ -1,10 +1,14 @@
--- A fault in words and numbers, as a line says it: its name, and its fields in decimal, each after one space. This is this
--- project's own.
+-- A fault in words and numbers, as a line says it: its name, and its fields in decimal, each after one space. This is
+-- this project's own.
 use Rattle.std.specs.Prelude.{ℕ, List, ◌∷◌, ◌++◌, codes, decimal}
 use Rattle.ljpeg_predict.specs.Faults.{jpeg_fault_text}
 use Rattle.opcode_list.specs.Faults.{fault_text as opcode_fault_text}
 use Rattle.tag_rules.specs.declared.faults.FrameFault.{FrameFault}
-use Rattle.tag_rules.specs.declared.faults.FrameFault.TheVariants.{NotTiff, BadDirectory, BadEntry, FloatTag, NotDng, Newer, NoRaw, Photometric, Compression, Depth, Samples, Size, Layout, Outside, Cfa, Levels, Active, Colour, Crop, Segment, TooLong, Format, Opcode, Trim, Memory}
+use Rattle.tag_rules.specs.declared.faults.FrameFault.TheVariants.{NotTiff, BadDirectory, BadEntry, FloatTag, NotDng}
+use Rattle.tag_rules.specs.declared.faults.FrameFault.TheVariants.{Newer, NoRaw, Photometric, Compression, Depth}
+use Rattle.tag_rules.specs.declared.faults.FrameFault.TheVariants.{Samples, Size, Layout, Outside, Cfa, Levels, Active}
+use Rattle.tag_rules.specs.declared.faults.FrameFault.TheVariants.{Colour, Crop, Segment, TooLong, Format, Opcode, Trim}
+use Rattle.tag_rules.specs.declared.faults.FrameFault.TheVariants.{Memory}
 use Rattle.tag_rules.specs.declared.faults.SegmentFault.{SegmentFault}
 use Rattle.tag_rules.specs.declared.faults.SegmentFault.TheVariants.{Jpeg, Short}
 

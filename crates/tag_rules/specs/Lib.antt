@@ -4,3 +4,4 @@ pub mod Opcodes
 pub mod Quantities
 pub mod Tags
 pub mod Values
+pub mod inner

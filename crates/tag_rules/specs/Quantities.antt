@@ -1,5 +1,6 @@
 -- Fractions as whole numbers of parts. The rounding, to the nearest and up at a half, is this project's own.
-use Rattle.std.specs.Prelude.{ℕ, ◌*◌, ◌<◌, ◌≤ℤ◌, length, slice_index_or, ◌&&◌, ℤ, pos, neg_ℤ, ◌+ℤ◌, ◌*ℤ◌, int_le, int_lt, Bool, List, map, if◌then◌else◌, Result, Ok, Err}
+use Rattle.std.specs.Prelude.{ℕ, ◌*◌, ◌<◌, ◌≤ℤ◌, length, slice_index_or, ◌&&◌, ℤ, pos, neg_ℤ, ◌+ℤ◌, ◌*ℤ◌, int_le}
+use Rattle.std.specs.Prelude.{int_lt, Bool, List, map, if◌then◌else◌, Result, Ok, Err}
 use Rattle.std.specs.Int.{int_div_euclid}
 use Rattle.std.specs.List.{list_all}
 use Rattle.tag_rules.specs.declared.faults.FrameFault.{FrameFault}

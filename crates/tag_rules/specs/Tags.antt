@@ -1,6 +1,6 @@
--- The tags that are read and the rule of each. Sources: TIFF 6.0, sections 8 (baseline), 15 (tiles) and 19 (SampleFormat);
--- Adobe's TIFF Technical Note 1 (SubIFDs); TIFF/EP (CFARepeatPatternDim, CFAPattern); DNG 1.6, chapter 4 (the tags from
--- 50706 on). The counts' limits and the refusals are this project's own.
+-- The tags that are read and the rule of each. Sources: TIFF 6.0, sections 8 (baseline), 15 (tiles) and 19
+-- (SampleFormat); Adobe's TIFF Technical Note 1 (SubIFDs); TIFF/EP (CFARepeatPatternDim, CFAPattern); DNG 1.6,
+-- chapter 4 (the tags from 50706 on). The counts' limits and the refusals are this project's own.
 use Rattle.std.specs.Prelude.{ℕ, ◌^◌, ◌-◌, ◌==◌, Bool, List, [], ◌∷◌}
 use Rattle.std.specs.List.{list_any, list_all}
 use Rattle.tiff_dirs.specs.Kinds.{is_whole, is_fraction}
@@ -9,12 +9,26 @@ use Rattle.tag_rules.specs.declared.faults.FrameFault.TheVariants.{BadEntry, Lay
 use Rattle.tag_rules.specs.declared.tags.Home.{Home}
 use Rattle.tag_rules.specs.declared.tags.Home.TheVariants.{Main, Raw}
 use Rattle.tag_rules.specs.declared.tags.Kinds.{Kinds}
-use Rattle.tag_rules.specs.declared.tags.Kinds.TheVariants.{Byte, Short, Long, ShortOrLong, LongOrIfd, Rational, ShortOrRational, ShortLongOrRational, SignedRational, Undefined}
+use Rattle.tag_rules.specs.declared.tags.Kinds.TheVariants.{Byte, Short, Long, ShortOrLong, LongOrIfd, Rational}
+use Rattle.tag_rules.specs.declared.tags.Kinds.TheVariants.{ShortOrRational, ShortLongOrRational, SignedRational}
+use Rattle.tag_rules.specs.declared.tags.Kinds.TheVariants.{Undefined}
 use Rattle.tag_rules.specs.declared.tags.Rule.{Rule}
 use Rattle.tag_rules.specs.declared.tags.Tag.{Tag}
-use Rattle.tag_rules.specs.declared.tags.Tag.TheVariants.{NewSubfileType, SubIfds, DngVersion, DngBackwardVersion, PhotometricInterpretation, Compression, SamplesPerPixel, BitsPerSample, SampleFormat, ImageWidth, ImageLength, TileWidth, TileLength, TileOffsets, TileByteCounts, StripOffsets, RowsPerStrip, StripByteCounts, CfaRepeatPatternDim, CfaPattern, CfaPlaneColor, CfaLayout, OpcodeList1, OpcodeList2, OpcodeList3, ActiveArea, LinearizationTable, BlackLevelRepeatDim, BlackLevel, BlackLevelDeltaH, BlackLevelDeltaV, WhiteLevel, DefaultCropOrigin, DefaultCropSize, ColorMatrix1, ColorMatrix2, CameraCalibration1, CameraCalibration2, AnalogBalance, AsShotNeutral, ForwardMatrix1, ForwardMatrix2}
+use Rattle.tag_rules.specs.declared.tags.Tag.TheVariants.{NewSubfileType, SubIfds, DngVersion, DngBackwardVersion}
+use Rattle.tag_rules.specs.declared.tags.Tag.TheVariants.{PhotometricInterpretation, Compression, SamplesPerPixel}
+use Rattle.tag_rules.specs.declared.tags.Tag.TheVariants.{BitsPerSample, SampleFormat, ImageWidth, ImageLength}
+use Rattle.tag_rules.specs.declared.tags.Tag.TheVariants.{TileWidth, TileLength, TileOffsets, TileByteCounts}
+use Rattle.tag_rules.specs.declared.tags.Tag.TheVariants.{StripOffsets, RowsPerStrip, StripByteCounts}
+use Rattle.tag_rules.specs.declared.tags.Tag.TheVariants.{CfaRepeatPatternDim, CfaPattern, CfaPlaneColor, CfaLayout}
+use Rattle.tag_rules.specs.declared.tags.Tag.TheVariants.{OpcodeList1, OpcodeList2, OpcodeList3, ActiveArea}
+use Rattle.tag_rules.specs.declared.tags.Tag.TheVariants.{LinearizationTable, BlackLevelRepeatDim, BlackLevel}
+use Rattle.tag_rules.specs.declared.tags.Tag.TheVariants.{BlackLevelDeltaH, BlackLevelDeltaV, WhiteLevel}
+use Rattle.tag_rules.specs.declared.tags.Tag.TheVariants.{DefaultCropOrigin, DefaultCropSize, ColorMatrix1}
+use Rattle.tag_rules.specs.declared.tags.Tag.TheVariants.{ColorMatrix2, CameraCalibration1, CameraCalibration2}
+use Rattle.tag_rules.specs.declared.tags.Tag.TheVariants.{AnalogBalance, AsShotNeutral, ForwardMatrix1, ForwardMatrix2}
 
--- the numbers of the types (TIFF 6.0, section 2): BYTE 1, SHORT 3, LONG 4, RATIONAL 5, UNDEFINED 7, SRATIONAL 10, IFD 13
+-- the numbers of the types (TIFF 6.0, section 2): BYTE 1, SHORT 3, LONG 4, RATIONAL 5, UNDEFINED 7, SRATIONAL 10,
+-- IFD 13
 abbrev pub numbers_of_kinds : Kinds → List ℕ
 numbers_of_kinds Byte = 1 ∷ []
 numbers_of_kinds Short = 3 ∷ []

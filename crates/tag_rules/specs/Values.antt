@@ -1,15 +1,14 @@
 -- What reading a tag by its rule answers. The refusals are this project's own.
-use Rattle.std.specs.Prelude.{ℕ, nat_le, not, ◌&&◌, if◌then◌else◌, ℤ, List, map, slice_index, Option, None, Some, Result, Ok, Err, unwrap_or}
+use Rattle.std.specs.Prelude.{ℕ, nat_le, not, ◌&&◌, if◌then◌else◌, ℤ, List, map, slice_index, Option, None, Some}
+use Rattle.std.specs.Prelude.{Result, Ok, Err, unwrap_or}
 use Rattle.std.specs.List.{range_with_len}
 use Rattle.std.specs.Option.{option_map}
 use Rattle.tiff_dirs.specs.Entries.{Field, entry_of}
 use Rattle.tiff_dirs.specs.Header.{first_directory, order_of}
 use Rattle.tiff_dirs.specs.Values.{number_in, rational_in}
-use Rattle.tiff_dirs.specs.declared.Entry.{Entry}
 use Rattle.tiff_dirs.specs.declared.EntryFault.{EntryFault}
 use Rattle.tiff_dirs.specs.declared.EntryFault.TheVariants.{BadEntry as BadEntryOfFile, FloatTag as FloatTagOfFile}
 use Rattle.tiff_dirs.specs.declared.Order.{Order}
-use Rattle.tiff_dirs.specs.Seen.{field_seen}
 use Rattle.tag_rules.specs.Answers.{and_then, or_refuse}
 use Rattle.tag_rules.specs.Tags.{allows, rule_of}
 use Rattle.tag_rules.specs.declared.faults.FrameFault.{FrameFault}
@@ -33,7 +32,8 @@ home_in dirs Raw = dirs.raw
 abbrev pub allowed : Rule → Field → Result (Option Field) FrameFault
 allowed rule field =
     if not (allows rule.kinds field.kind) then Err (BadEntry rule.number)
-    else (if nat_le rule.fewest field.count && nat_le field.count rule.most then Ok (Some field) else Err rule.miscounted)
+    else (if nat_le rule.fewest field.count && nat_le field.count rule.most
+    then Ok (Some field) else Err rule.miscounted)
 
 -- what a rule makes of what was found
 abbrev pub by_rule : Rule → Result (Option Field) EntryFault → Result (Option Field) FrameFault
@@ -56,7 +56,8 @@ fractions_in order field = map (rational_in order field.kind field.value) (range
 
 -- the whole numbers under a tag in the directory at an offset
 unfoldable pub numbers_at : List ℕ → ℕ → Tag → Result (Option (List ℕ)) FrameFault
-numbers_at bytes at tag = and_then (field_at bytes at tag) (λ found. Ok (option_map (numbers_in (order_of bytes)) found))
+numbers_at bytes at tag =
+    and_then (field_at bytes at tag) (λ found. Ok (option_map (numbers_in (order_of bytes)) found))
 
 -- the whole numbers under a tag, in the tag's own directory
 unfoldable pub numbers_of : Dirs → Tag → Result (Option (List ℕ)) FrameFault
@@ -82,17 +83,12 @@ number_or dirs tag default = and_then (number_of dirs tag) (λ found. Ok (unwrap
 
 -- the fractions under a tag in the directory at an offset
 unfoldable pub fractions_at : List ℕ → ℕ → Tag → Result (Option (List (ℤ × ℤ))) FrameFault
-fractions_at bytes at tag = and_then (field_at bytes at tag) (λ found. Ok (option_map (fractions_in (order_of bytes)) found))
+fractions_at bytes at tag =
+    and_then (field_at bytes at tag) (λ found. Ok (option_map (fractions_in (order_of bytes)) found))
 
 -- the fractions under a tag, in the tag's own directory
 unfoldable pub fractions_of : Dirs → Tag → Result (Option (List (ℤ × ℤ))) FrameFault
 fractions_of dirs tag = fractions_at dirs.bytes (home_in dirs (rule_of tag).home) tag
-
--- an answer for an entry, with the bytes that its slice holds
-abbrev pub entry_seen : Result (Option Entry) FrameFault → Result (Option Field) FrameFault
-entry_seen (Ok None) = Ok None
-entry_seen (Ok (Some entry)) = Ok (Some (field_seen entry))
-entry_seen (Err fault) = Err fault
 
 -- a fact of what was found
 abbrev pub IfFound : {A : Type 0} → Result (Option A) FrameFault → (A → Type 0) → Type 0

@@ -5,6 +5,8 @@ ghost use Rattle.tag_rules.specs.FaultText.{fault_text, named, segment_fault_tex
 
 use ljpeg_predict::JpegFault;
 use opcode_list::OpcodeFault;
+use std::error::Error;
+use std::fmt;
 use strip_unpack::Short;
 use text_line::Line;
 
@@ -13,7 +15,7 @@ use text_line::Line;
 pub enum SegmentFault {
     /// It has fewer bytes than its samples take.
     Short(Short),
-    /// Its stream isn't one of so many samples.
+    /// Its lossless JPEG stream can't be decoded, or has another number of samples.
     Jpeg(JpegFault),
 }
 
@@ -40,7 +42,7 @@ pub enum FrameFault {
     Compression { v: u32 },
     /// The samples don't have 8 to 16 bits.
     Depth { v: u32 },
-    /// A pixel has not one sample.
+    /// A pixel doesn't have one sample.
     Samples { v: u32 },
     /// The image has no pixel or too many, or is too small to be demosaiced.
     Size,
@@ -69,7 +71,7 @@ pub enum FrameFault {
     /// The rectangle of this opcode of an opcode list, a TrimBounds, doesn't lie in the plane that it finds. The index
     /// counts all opcodes of the list from 0.
     Trim { list: u8, index: u32 },
-    /// There was no memory.
+    /// Out of memory.
     Memory,
 }
 
@@ -144,6 +146,78 @@ impl FrameFault {
         }
     }
 }
+
+impl fmt::Display for SegmentFault {
+    fn fmt<W: fmt::Write>(&self, f: &mut fmt::Formatter<W>) -> fmt::Result {
+        match self {
+            SegmentFault::Short(short) => write!(f, "{short}"),
+            SegmentFault::Jpeg(_) => write!(f, "the lossless JPEG stream can't be decoded"),
+        }
+    }
+}
+
+impl Error for SegmentFault {}
+
+impl fmt::Display for FrameFault {
+    fn fmt<W: fmt::Write>(&self, f: &mut fmt::Formatter<W>) -> fmt::Result {
+        match self {
+            FrameFault::NotTiff => write!(f, "the file has no TIFF header"),
+            FrameFault::BadDirectory { at } => {
+                write!(f, "the directory at {at} doesn't lie in the file")
+            }
+            FrameFault::BadEntry { tag } => write!(
+                f,
+                "the entry of tag {tag} is missing or can't be read"
+            ),
+            FrameFault::FloatTag { tag } => {
+                write!(f, "the entry of tag {tag} has floating point numbers")
+            }
+            FrameFault::NotDng => write!(f, "there is no DNG version"),
+            FrameFault::Newer => write!(f, "a reader of a later DNG version than 1.6 is needed"),
+            FrameFault::NoRaw => write!(f, "no directory is the raw image's"),
+            FrameFault::Photometric { v } => {
+                write!(
+                    f,
+                    "photometric interpretation {v} is no colour filter array"
+                )
+            }
+            FrameFault::Compression { v } => write!(f, "compression {v} is neither 1 nor 7"),
+            FrameFault::Depth { v } => write!(f, "the samples have {v} bits, and not 8 to 16"),
+            FrameFault::Samples { v } => write!(f, "a pixel has {v} samples, and not one"),
+            FrameFault::Size => write!(
+                f,
+                "the image is empty, too large, or too small to be demosaiced"
+            ),
+            FrameFault::Layout => write!(f, "the strips or tiles don't make up the image"),
+            FrameFault::Outside { segment } => {
+                write!(f, "segment {segment} doesn't lie in the file")
+            }
+            FrameFault::Cfa => write!(f, "the colour pattern isn't one of those that are accepted"),
+            FrameFault::Levels => write!(f, "the levels of black and white are out of range"),
+            FrameFault::Active => write!(f, "the active area is empty or doesn't lie in the image"),
+            FrameFault::Colour { tag } => {
+                write!(
+                    f,
+                    "colour tag {tag} has a wrong count or numbers out of range"
+                )
+            }
+            FrameFault::Crop => write!(f, "the default crop has no pixel"),
+            FrameFault::Segment { segment, why } => write!(f, "segment {segment}: {why}"),
+            FrameFault::TooLong => write!(f, "the file has more than 2^28 bytes"),
+            FrameFault::Format { v } => write!(f, "sample format {v} isn't that of whole numbers"),
+            FrameFault::Opcode { list, fault } => write!(f, "opcode list {list}: {fault}"),
+            FrameFault::Trim { list, index } => {
+                write!(
+                    f,
+                    "the trim of opcode list {list} at {index} doesn't lie in the plane"
+                )
+            }
+            FrameFault::Memory => write!(f, "out of memory"),
+        }
+    }
+}
+
+impl Error for FrameFault {}
 
 // Appends a name and a number after a space.
 fn say_number(line: &mut Line, name: &[u8], number: u32)

@@ -29,7 +29,7 @@ impl Directories<'_> {
     ///
     /// # Errors
     ///
-    /// `Opcode`, and what reading the tag is refused for; `Memory` where there was none for the list.
+    /// `Opcode`, what reading the tag is refused for, and `Memory` where the list is out of memory.
     #[tactic(auto, unfolding(crate::specs::Opcodes::opcodes_under))]
     pub fn opcodes(&self, alloc: Global, list: u8) -> Result<Items<Opcode>, FrameFault>
         requires low { 1 ≤ list }

@@ -1,6 +1,7 @@
 //! Reading a tag's numbers by the tag's rule. An entry is looked up once, and its numbers are read in place.
 
-ghost use Rattle.std.specs.Prelude.{◌≡◌, ℕ, ◌*◌, ◌≤◌, ◌<◌, ℤ, pos, length, slice_index, slice_index_or, unwrap_or, [], IfOk, IsTrue, Ok};
+ghost use Rattle.std.specs.Prelude.{◌≡◌, ℕ, ◌*◌, ◌≤◌, ◌<◌, ℤ, pos, length, slice_index, slice_index_or, unwrap_or, []};
+ghost use Rattle.std.specs.Prelude.{IfOk, IsTrue, Ok};
 ghost use Rattle.tiff_dirs.specs.Header.{order_of};
 ghost use Rattle.tiff_dirs.specs.Kinds.{size_of};
 ghost use Rattle.tiff_dirs.specs.Numbers.{IsOf32Bits};
@@ -9,7 +10,9 @@ ghost use Rattle.tag_rules.specs.Answers.{Answers, and_then};
 ghost use Rattle.tag_rules.specs.declared.tags.Home.TheVariants.{Raw};
 ghost use Rattle.tag_rules.specs.declared.tags.Kinds.TheVariants.{Short};
 ghost use Rattle.tag_rules.specs.Tags.{allows, are_fractions, are_whole, rule_of};
-ghost use Rattle.tag_rules.specs.Values.{IfFound, entry_seen, field_at, fractions_at, fractions_of, number_of, number_or, numbers_at, numbers_in, numbers_of, required_number_of, required_numbers_of};
+ghost use Rattle.tag_rules.specs.Values.{IfFound, field_at, fractions_at, fractions_of, number_of, number_or};
+ghost use Rattle.tag_rules.specs.Values.{numbers_at, numbers_in, numbers_of, required_number_of, required_numbers_of};
+ghost use Rattle.tag_rules.specs.inner.Seen.{entry_seen};
 
 use crate::faults::FrameFault;
 use crate::tags::{Home, Tag};
@@ -36,7 +39,8 @@ impl<'a> Model for Whole<'a> {
 
     ghost view = { λ w. numbers_in (order_of w.tiff.now) (field_seen w.entry) };
 
-    ghost invariant = { λ w. IsTrue (is_whole w.entry.kind) × (length w.entry.value.now ≡ w.entry.count * size_of w.entry.kind) };
+    ghost invariant = { λ w. IsTrue (is_whole w.entry.kind)
+        × (length w.entry.value.now ≡ w.entry.count * size_of w.entry.kind) };
 }
 
 impl<'a> Whole<'a> {
@@ -74,7 +78,8 @@ impl<'a> Model for Fractions<'a> {
 
     ghost view = { λ f. fractions_in (order_of f.tiff.now) (field_seen f.entry) };
 
-    ghost invariant = { λ f. IsTrue (is_fraction f.entry.kind) × (length f.entry.value.now ≡ f.entry.count * size_of f.entry.kind) };
+    ghost invariant = { λ f. IsTrue (is_fraction f.entry.kind)
+        × (length f.entry.value.now ≡ f.entry.count * size_of f.entry.kind) };
 }
 
 impl<'a> Fractions<'a> {
@@ -125,6 +130,10 @@ pub(crate) fn field_in<'a>(
 }
 
 /// The whole numbers under a tag in a directory, if the tag is there.
+///
+/// # Errors
+///
+/// `FloatTag` and `BadEntry` of the tag, and the rule's own refusal where its entry has a count that isn't allowed.
 #[tactic(auto, using(crate::proofs::ValuesLemmas::length_numbers_in), unfolding(crate::specs::Values::numbers_at))]
 pub fn whole_in<'a>(
     tiff: &'a Tiff<'a>,
@@ -182,6 +191,10 @@ impl<'a> Directories<'a> {
     }
 
     /// The whole numbers under a tag in its directory, if the tag is there.
+    ///
+    /// # Errors
+    ///
+    /// Those of [`whole_in`].
     #[tactic(auto, unfolding(crate::specs::Values::numbers_of))]
     pub fn whole(&self, tag: Tag) -> Result<Option<Whole<'a>>, FrameFault>
         requires { IsTrue (are_whole (rule_of tag).kinds) }
@@ -194,7 +207,11 @@ impl<'a> Directories<'a> {
         }
     }
 
-    /// The first of them.
+    /// The first of the whole numbers under a tag in its directory, if the tag is there.
+    ///
+    /// # Errors
+    ///
+    /// Those of [`whole_in`].
     #[tactic(auto, unfolding(crate::specs::Values::number_of))]
     pub fn number(&self, tag: Tag) -> Result<Option<u32>, FrameFault>
         requires whole { IsTrue (are_whole (rule_of tag).kinds) }
@@ -208,6 +225,10 @@ impl<'a> Directories<'a> {
     }
 
     /// The number of a tag that has to be there.
+    ///
+    /// # Errors
+    ///
+    /// Those of [`whole_in`], and `BadEntry` where the tag isn't there.
     #[tactic(auto, unfolding(crate::specs::Values::required_number_of))]
     pub fn required_number(&self, tag: Tag) -> Result<u32, FrameFault>
         requires whole { IsTrue (are_whole (rule_of tag).kinds) }
@@ -223,6 +244,10 @@ impl<'a> Directories<'a> {
     }
 
     /// The numbers of a tag that has to be there.
+    ///
+    /// # Errors
+    ///
+    /// Those of [`whole_in`], and `BadEntry` where the tag isn't there.
     #[tactic(auto, unfolding(crate::specs::Values::required_numbers_of))]
     pub fn required_whole(&self, tag: Tag) -> Result<Whole<'a>, FrameFault>
         requires { IsTrue (are_whole (rule_of tag).kinds) }
@@ -238,6 +263,10 @@ impl<'a> Directories<'a> {
     }
 
     /// The number of a tag, or its default.
+    ///
+    /// # Errors
+    ///
+    /// Those of [`whole_in`].
     #[tactic(auto, unfolding(crate::specs::Values::number_or))]
     pub fn number_or(&self, tag: Tag, default: u32) -> Result<u32, FrameFault>
         requires whole { IsTrue (are_whole (rule_of tag).kinds) }
@@ -248,6 +277,10 @@ impl<'a> Directories<'a> {
     }
 
     /// The fractions under a tag in its directory, if the tag is there.
+    ///
+    /// # Errors
+    ///
+    /// Those of [`whole_in`].
     #[tactic(auto, unfolding(crate::specs::Values::fractions_of))]
     pub fn fractions(&self, tag: Tag) -> Result<Option<Fractions<'a>>, FrameFault>
         requires { IsTrue (are_fractions (rule_of tag).kinds) }

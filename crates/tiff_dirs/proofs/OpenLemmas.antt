@@ -15,7 +15,8 @@ answer-ok true true bytes seen at e = (cc, refl, refl)
 answer-ok true false bytes seen at e = absurd (cc)
 answer-ok false fits bytes seen at e = absurd (cc)
 
-answer-err : (header fits : Bool) (bytes : List ℕ) (at : ℕ) (fault : TiffFault) → answer header fits bytes at ≡ Err fault
+answer-err : (header fits : Bool) (bytes : List ℕ) (at : ℕ) (fault : TiffFault)
+    → answer header fits bytes at ≡ Err fault
     → ((fault ≡ NotTiff) × (header ≡ false)) ⊎ ((fault ≡ BadDirectory at) × (header ≡ true) × (fits ≡ false))
 unfolding answer
 answer-err true true bytes at fault e = absurd (cc)
@@ -31,7 +32,9 @@ open_of-ok bytes seen e =
 
 -- a file that isn't opened has no header, or directory 0 doesn't lie in it
 pub open_of-err : (bytes : List ℕ) (fault : TiffFault) → open_of bytes ≡ Err fault
-    → ((fault ≡ NotTiff) × (has_header bytes ≡ false)) ⊎ ((fault ≡ BadDirectory (first_directory bytes)) × (has_header bytes ≡ true) × (directory_fits bytes (first_directory bytes) ≡ false))
+    → ((fault ≡ NotTiff) × (has_header bytes ≡ false))
+    ⊎ ((fault ≡ BadDirectory (first_directory bytes)) × (has_header bytes ≡ true)
+    × (directory_fits bytes (first_directory bytes) ≡ false))
 unfolding open_of answer
 open_of-err bytes fault e =
     answer-err (has_header bytes) (directory_fits bytes (first_directory bytes)) bytes (first_directory bytes) fault e

@@ -10,7 +10,8 @@ use Rattle.tiff_dirs.specs.Numbers.{long_at, number_at, short_at}
 use Rattle.tiff_dirs.specs.Values.{number_in}
 
 -- a value of a type whose numbers take a known size has room for each
-pub value_room : (kind count size i len : ℕ) → size_of kind ≡ size → i < count → count * size_of kind ≤ len → size * i + size ≤ len
+pub value_room : (kind count size i len : ℕ) → size_of kind ≡ size → i < count → count * size_of kind ≤ len
+    → size * i + size ≤ len
 value_room kind count size i len e within room =
     let all : count * size ≤ len = rw e at room in
     let h : (i + 1) * size ≤ count * size = mul-le-mul_right size (omega arith) in
@@ -56,22 +57,26 @@ first_byte bytes place =
     rw here at (get_or-drop place bytes 0 0)
 
 -- a byte is a number of itself in either order
-pub number_at-byte : (order : Order) (bytes : List ℕ) (place : ℕ) → number_at order 1 bytes place ≡ slice_index bytes place
+pub number_at-byte : (order : Order) (bytes : List ℕ) (place : ℕ)
+    → number_at order 1 bytes place ≡ slice_index bytes place
 unfolding number_at
 number_at-byte Little bytes place = omega (arith, first_byte bytes place)
 number_at-byte Big bytes place = omega (arith, first_byte bytes place)
 
 -- number i of a value, by its type
-pub number_in-byte : (order : Order) (kind : ℕ) (value : List ℕ) (i : ℕ) → size_of kind ≡ 1 → number_in order kind value i ≡ slice_index value i
+pub number_in-byte : (order : Order) (kind : ℕ) (value : List ℕ) (i : ℕ) → size_of kind ≡ 1
+    → number_in order kind value i ≡ slice_index value i
 unfolding number_in
 number_in-byte order kind value i e =
     let one : 1 * i ≡ i = omega arith in
     rw (e, one) (number_at-byte order value i)
 
-pub number_in-short : (order : Order) (kind : ℕ) (value : List ℕ) (i : ℕ) → size_of kind ≡ 2 → number_in order kind value i ≡ short_at order value (2 * i)
+pub number_in-short : (order : Order) (kind : ℕ) (value : List ℕ) (i : ℕ) → size_of kind ≡ 2
+    → number_in order kind value i ≡ short_at order value (2 * i)
 unfolding number_in
 number_in-short order kind value i e = rw e refl
 
-pub number_in-long : (order : Order) (kind : ℕ) (value : List ℕ) (i : ℕ) → size_of kind ≡ 4 → number_in order kind value i ≡ long_at order value (4 * i)
+pub number_in-long : (order : Order) (kind : ℕ) (value : List ℕ) (i : ℕ) → size_of kind ≡ 4
+    → number_in order kind value i ≡ long_at order value (4 * i)
 unfolding number_in
 number_in-long order kind value i e = rw e refl

@@ -1,5 +1,6 @@
 -- The entries of a directory and their values (TIFF 6.0, section 2, "IFD Entry" and "Value/Offset").
-use Rattle.std.specs.Prelude.{ℕ, ◌+◌, ◌*◌, ◌==◌, nat_le, Bool, ◌&&◌, if◌then◌else◌, List, [], length, map, take, drop, Option, None, Some, Result, Ok, Err}
+use Rattle.std.specs.Prelude.{ℕ, ◌+◌, ◌*◌, ◌==◌, nat_le, Bool, ◌&&◌, if◌then◌else◌, List, [], length, map, take, drop}
+use Rattle.std.specs.Prelude.{Option, None, Some, Result, Ok, Err}
 use Rattle.std.specs.List.{find, range_with_len}
 use Rattle.tiff_dirs.specs.Header.{directory_fits, entry_count, order_of}
 use Rattle.tiff_dirs.specs.Kinds.{is_float, is_kind, size_of}

@@ -1,5 +1,6 @@
 -- The header and the place of a directory (TIFF 6.0, section 2, "Image File Header" and "Image File Directory").
-use Rattle.std.specs.Prelude.{ℕ, ◌+◌, ◌*◌, nat_eq, nat_le, Bool, ◌&&◌, ◌||◌, if◌then◌else◌, List, [], ◌∷◌, length, Result, Ok, Err}
+use Rattle.std.specs.Prelude.{ℕ, ◌+◌, ◌*◌, nat_eq, nat_le, Bool, ◌&&◌, ◌||◌, if◌then◌else◌, List, [], ◌∷◌, length}
+use Rattle.std.specs.Prelude.{Result, Ok, Err}
 use Rattle.std.specs.List.{starts_with}
 use Rattle.tiff_dirs.specs.Numbers.{long_at, short_at}
 use Rattle.tiff_dirs.specs.declared.Order.{Order}

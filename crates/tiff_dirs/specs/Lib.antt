@@ -4,3 +4,4 @@ pub mod Kinds
 pub mod Numbers
 pub mod Seen
 pub mod Values
+pub mod inner

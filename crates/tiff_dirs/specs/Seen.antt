@@ -1,4 +1,4 @@
--- How contracts see the entries that `find` gives.
+-- How contracts see the entries that `Tiff::find` gives. This is this project's own.
 use Rattle.std.specs.Prelude.{Option, None, Some, Result, Ok, Err}
 use Rattle.tiff_dirs.specs.Entries.{Field}
 use Rattle.tiff_dirs.specs.declared.Entry.{Entry}
@@ -18,11 +18,6 @@ abbrev pub seen : Result (Option Entry) EntryFault → Result (Option Field) Ent
 seen (Ok None) = Ok None
 seen (Ok (Some entry)) = Ok (Some (field_seen entry))
 seen (Err fault) = Err fault
-
--- an answer for one entry
-abbrev pub one_seen : Result Entry EntryFault → Result Field EntryFault
-one_seen (Ok entry) = Ok (field_seen entry)
-one_seen (Err fault) = Err fault
 
 -- a fact of the entry that was found
 abbrev pub IfFound : Result (Option Entry) EntryFault → (Entry → Type 0) → Type 0

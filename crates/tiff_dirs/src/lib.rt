@@ -9,10 +9,12 @@ ghost use Rattle.std.specs.Prelude.{◌≡◌, ◌+◌, ◌*◌, ◌≤◌, ◌<
 ghost use Rattle.std.specs.List.{find};
 ghost use Rattle.std.specs.Option.{option_map};
 ghost use Rattle.tiff_dirs.specs.Entries.{entries, entry_of, field_or_fault, slot_at, value_place};
-ghost use Rattle.tiff_dirs.specs.Header.{directory_fits, directory_of, entry_count, first_directory, has_header, open_of, order_of};
+ghost use Rattle.tiff_dirs.specs.Header.{directory_fits, directory_of, entry_count, first_directory, has_header};
+ghost use Rattle.tiff_dirs.specs.Header.{open_of, order_of};
 ghost use Rattle.tiff_dirs.specs.Kinds.{is_fraction, is_whole, size_of};
 ghost use Rattle.tiff_dirs.specs.Numbers.{IsOf32Bits, long_at, short_at, signed_long_at, signed_short_at};
-ghost use Rattle.tiff_dirs.specs.Seen.{IfFound, one_seen, seen};
+ghost use Rattle.tiff_dirs.specs.Seen.{IfFound, seen};
+ghost use Rattle.tiff_dirs.specs.inner.Seen.{one_seen};
 ghost use Rattle.tiff_dirs.specs.Values.{number_in, rational_in};
 
 use byteorder::{BigEndian, ByteOrder, LittleEndian};

@@ -5,5 +5,6 @@ use Rattle.dng_tags.proofs.colours.fill_gains.Goals as goal
 
 pub returns-clause-gains : goal.returns-clause-gains
 returns-clause-gains c =
-    map_by_all (gain_of (get_or c.args.neutral.now 1 (pos 0, pos 0))) c.args.neutral.now c.loop-i.gains (pos 0, pos 0) 0 (omega arith)
+    map_by_all (gain_of (get_or c.args.neutral.now 1 (pos 0, pos 0))) c.args.neutral.now c.loop-i.gains (pos 0, pos 0) 0
+    (omega arith)
     (λ k within. c.loop-i.invariant.gains k (omega arith))

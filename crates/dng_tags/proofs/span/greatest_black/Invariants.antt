@@ -1,6 +1,6 @@
 use Rattle.std.proofs.Common.{pos}
 use Rattle.std.specs.Prelude.{neg_ℤ, ◌≤ℤ◌}
-use Rattle.dng_tags.specs.Span.{FallsBefore, IsGreatestBlack}
+use Rattle.dng_tags.specs.inner.Span.{FallsBefore, IsGreatestBlack}
 use Rattle.dng_tags.proofs.span.greatest_black.Given as goal
 
 abbrev pub invariant-loop-i : goal.invariant-loop-i

@@ -5,4 +5,5 @@ use Rattle.frame_segments.proofs.decoding.largest_count.Given as goal
 
 abbrev pub invariant-loop-segment : goal.invariant-loop-segment
 invariant-loop-segment l =
-    (k : ℕ) (segment : Segment) → k < l.segment-index → slice_get l.segments k ≡ Some segment → coded_count segment ≤ l.largest
+    (k : ℕ) (segment : Segment) → k < l.segment-index → slice_get l.segments k ≡ Some segment
+    → coded_count segment ≤ l.largest

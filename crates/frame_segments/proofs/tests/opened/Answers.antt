@@ -7,4 +7,5 @@ use Rattle.frame_segments.proofs.tests.opened.Goals as goal
 pub fetched-requires-clause-planes : goal.fetched-requires-clause-planes
 fetched-requires-clause-planes c =
     let frame = c.in_ok-frame.frame in
-    ap (λ (o : Opened). o.plane.planes) c.in_ok-segments.ensures.opened ∙ plane_planes c.args.case.now.bytes.now (coding_of frame) frame.shape frame.segments
+    ap (λ (o : Opened). o.plane.planes) c.in_ok-segments.ensures.opened
+    ∙ plane_planes c.args.case.now.bytes.now (coding_of frame) frame.shape frame.segments

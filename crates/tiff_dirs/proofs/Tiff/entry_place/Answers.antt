@@ -9,8 +9,12 @@ returns-in_err-count-clause-place c =
 
 pub returns-then-short-tag-clause-place : goal.returns-then-short-tag-clause-place
 returns-then-short-tag-clause-place c =
-    rw (← c.self.view_is) (entry_found c.self.inside.bytes.now c.args.at c.args.tag c.in_ok-count.count c.loop-i.i c.in_ok-count.ensures.count (omega arith) c.loop-i.invariant (rw (← c.self.invariant.0) (sym c.short.ensures ∙ c.if-short-tag.true)))
+    let sought = sym c.short.ensures ∙ c.if-short-tag.true in
+    rw (← c.self.view_is)
+    (entry_found c.self.inside.bytes.now c.args.at c.args.tag c.in_ok-count.count c.loop-i.i
+    c.in_ok-count.ensures.count (omega arith) c.loop-i.invariant (rw (← c.self.invariant.0) sought))
 
 pub returns-clause-place : goal.returns-clause-place
 returns-clause-place c =
-    rw (← c.self.view_is) (entry_absent c.self.inside.bytes.now c.args.at c.args.tag c.in_ok-count.count c.loop-i.i c.in_ok-count.ensures.count (omega arith) c.loop-i.invariant)
+    rw (← c.self.view_is) (entry_absent c.self.inside.bytes.now c.args.at c.args.tag c.in_ok-count.count c.loop-i.i
+    c.in_ok-count.ensures.count (omega arith) c.loop-i.invariant)

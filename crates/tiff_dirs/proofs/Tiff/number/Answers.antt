@@ -1,5 +1,6 @@
 use Rattle.std.proofs.Common.{◌∙◌, arith}
-use Rattle.tiff_dirs.proofs.ValuesLemmas.{number_in-byte, number_in-long, number_in-short, size_of-byte, size_of-long, size_of-short, value_room}
+use Rattle.tiff_dirs.proofs.ValuesLemmas.{number_in-byte, number_in-long, number_in-short, size_of-byte, size_of-long}
+use Rattle.tiff_dirs.proofs.ValuesLemmas.{size_of-short, value_room}
 use Rattle.tiff_dirs.proofs.Tiff.number.Goals as goal
 
 pub bounds-e-i : goal.bounds-e-i
@@ -20,7 +21,8 @@ returns-in-1-clause-value c =
 
 pub returns-in-3-clause-value : goal.returns-in-3-clause-value
 returns-in-3-clause-value c =
-    rw (← c.self.view_is, ← c.self.invariant.0, number_in-short _ _ _ _ (size_of-short _ c.in-3.is)) (c.into-in-3.ensures ∙ c.short.ensures)
+    rw (← c.self.view_is, ← c.self.invariant.0, number_in-short _ _ _ _ (size_of-short _ c.in-3.is))
+    (c.into-in-3.ensures ∙ c.short.ensures)
 
 pub returns-in_default-clause-value : goal.returns-in_default-clause-value
 returns-in_default-clause-value c =

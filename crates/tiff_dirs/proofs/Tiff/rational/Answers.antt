@@ -1,5 +1,6 @@
 use Rattle.std.proofs.Common.{arith}
-use Rattle.tiff_dirs.proofs.ValuesLemmas.{size_of-rational, size_of-slong, size_of-srational, size_of-sshort, value_room}
+use Rattle.tiff_dirs.proofs.ValuesLemmas.{size_of-rational, size_of-slong, size_of-srational, size_of-sshort}
+use Rattle.tiff_dirs.proofs.ValuesLemmas.{value_room}
 use Rattle.tiff_dirs.proofs.Tiff.rational.Goals as goal
 
 pub long-requires : goal.long-requires

@@ -11,6 +11,7 @@ unfolding segments_in
 returns-clause-parts c =
     let made : c.loop-k.k ≡ segment_count c.args.shape c.args.self.now.cut = omega arith in
     let same : c.from_vec.result ≡ segments_in c.args.shape c.args.self.now =
-    c.from_vec.ensures ∙ (c.loop-k.invariant ∙ ap (λ n. map (segment_at c.args.shape c.args.self.now) (range_with_len 0 n)) made) in
+    c.from_vec.ensures ∙ (c.loop-k.invariant
+    ∙ ap (λ n. map (segment_at c.args.shape c.args.self.now) (range_with_len 0 n)) made) in
     let P : List Segment → Type 0 = λ segments. AreParts c.args.shape segments in
     subst P (sym same) (layout_parts c.args.shape c.args.self.now c.requires.shape c.requires.checked)

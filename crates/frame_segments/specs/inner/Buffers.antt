@@ -51,7 +51,8 @@ abbrev pub IsDecodable : List ℕ → Coding → Segment → Type 0
 IsDecodable bytes coding segment = segment_fault bytes coding segment ≡ None
 
 -- the segments make up a plane of this shape, each can be decoded into the buffer, and the buffer holds one of them
-pub record AreOpened (bytes : List ℕ) (coding : Coding) (shape : Shape) (segments : List Segment) (buffer : List ℕ) (held : ℕ) : Type 0 where
+pub record AreOpened (bytes : List ℕ) (coding : Coding) (shape : Shape) (segments : List Segment) (buffer : List ℕ)
+    (held : ℕ) : Type 0 where
   pub depth : IsCoding coding
   pub limits : IsShape shape
   pub planes : shape.planes ≡ 1

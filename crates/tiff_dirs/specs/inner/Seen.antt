@@ -1,0 +1,11 @@
+-- How contracts see what looking at one entry answers. This is this project's own.
+use Rattle.std.specs.Prelude.{Result, Ok, Err}
+use Rattle.tiff_dirs.specs.Entries.{Field}
+use Rattle.tiff_dirs.specs.Seen.{field_seen}
+use Rattle.tiff_dirs.specs.declared.Entry.{Entry}
+use Rattle.tiff_dirs.specs.declared.EntryFault.{EntryFault}
+
+-- an answer for one entry, with the bytes that its slice holds
+abbrev pub one_seen : Result Entry EntryFault → Result Field EntryFault
+one_seen (Ok entry) = Ok (field_seen entry)
+one_seen (Err fault) = Err fault
