@@ -1,4 +1,4 @@
--- Equal stages are alike.
+-- Equal stages are alike: this project's own.
 use Rattle.std.proofs.Common.{◌≡◌, true, List, ℤ, refl, rules}
 use Rattle.plane_view.specs.declared.Rect.{Rect}
 use Rattle.plane_view.specs.declared.Shape.{Shape}
@@ -12,7 +12,8 @@ use Rattle.colour_matrix.specs.contracts.balance.BalancePartialEq.TheImpl as bal
 use Rattle.colour_matrix.specs.contracts.matrix.MatrixPartialEq.TheImpl as matrix
 
 pub same_balances : (s t : Balancing) → balance.ghosts.eq s t ≡ true
-    → AreAlike (λ (s : Balancing) (input : Shape). input.planes ≡ 3) (λ (s : Balancing) (input : Shape). input) (λ (s : Balancing) (input : Shape) (rect : Rect). rect) (λ (s : Balancing) P. balanced s P) s t
+    → AreAlike (λ (s : Balancing) (input : Shape). input.planes ≡ 3) (λ (s : Balancing) (input : Shape). input)
+    (λ (s : Balancing) (input : Shape) (rect : Rect). rect) (λ (s : Balancing) P. balanced s P) s t
 same_balances s t equal =
     let gains : s.gains ≡ t.gains = search rules in
     let exposure : s.exposure ≡ t.exposure = search rules in
@@ -20,6 +21,7 @@ same_balances s t equal =
     alike_same _ _ _ _ s t same
 
 pub same_matrices : (s t : List ℤ) → matrix.ghosts.eq s t ≡ true
-    → AreAlike (λ (s : List ℤ) (input : Shape). input.planes ≡ 3) (λ (s : List ℤ) (input : Shape). input) (λ (s : List ℤ) (input : Shape) (rect : Rect). rect) (λ (s : List ℤ) P. matrixed s P) s t
+    → AreAlike (λ (s : List ℤ) (input : Shape). input.planes ≡ 3) (λ (s : List ℤ) (input : Shape). input)
+    (λ (s : List ℤ) (input : Shape) (rect : Rect). rect) (λ (s : List ℤ) P. matrixed s P) s t
 same_matrices s t equal =
     alike_same _ _ _ _ s t ((slice_eq-Decides signed_Decides s t (matrix.ghosts.eq s t) refl).0 equal)

@@ -47,7 +47,8 @@ rgb_of_xyz =
 -- the entry in row i and column j of that matrix times a forward matrix, rounded to the nearest number, a half up
 abbrev pub forward_entry : List ℤ → ℕ → ℕ → ℤ
 forward_entry f i j =
-    int_div_euclid (entry_at rgb_of_xyz i 0 *ℤ entry_at f 0 j +ℤ entry_at rgb_of_xyz i 1 *ℤ entry_at f 1 j +ℤ entry_at rgb_of_xyz i 2 *ℤ entry_at f 2 j +ℤ pos 5000) (pos 10000)
+    int_div_euclid (entry_at rgb_of_xyz i 0 *ℤ entry_at f 0 j +ℤ entry_at rgb_of_xyz i 1 *ℤ entry_at f 1 j
+    +ℤ entry_at rgb_of_xyz i 2 *ℤ entry_at f 2 j +ℤ pos 5000) (pos 10000)
 
 -- that matrix times a forward matrix, which leads from balanced samples to XYZ under D50
 abbrev pub forward_matrix : List ℤ → List ℤ

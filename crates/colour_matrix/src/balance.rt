@@ -5,7 +5,7 @@ ghost use Rattle.plane_view.specs.Lent.{HasRun, sample_at};
 ghost use Rattle.plane_view.specs.Rectangles.{width};
 ghost use Rattle.plane_view.specs.Rows.{IsRowOf};
 ghost use Rattle.colour_matrix.specs.Balances.{Balancing, IsGain, balanced, balanced_at};
-ghost use Rattle.colour_matrix.specs.Factors.{AreFactors};
+ghost use Rattle.colour_matrix.specs.inner.Factors.{AreFactors};
 
 use crate::factors::{Factors, balance_samples};
 use plane_view::{Rect, Shape, TileMut, View};
@@ -57,7 +57,8 @@ fn balance_row(input: &View<'_>, factors: &Factors, rect: Rect, r: u32, out: &mu
     requires run { HasRun input.now.rect r rect.left rect.right }
     requires planes { input.now.planes ≡ 3 }
     requires long { length out.old ≡ width rect * 3 }
-    ensures { (s : Balancing) → AreFactors s factors.now → IsRowOf (balanced_at s (sample_at input.now)) rect 3 r out.new }
+    ensures { (s : Balancing) → AreFactors s factors.now
+        → IsRowOf (balanced_at s (sample_at input.now)) rect 3 r out.new }
 {
     balance_samples(input.run(r, rect.left, rect.right), factors, out);
 }
@@ -104,7 +105,8 @@ impl Stage for Balance {
 
     ghost needs_part = { λ s input rect shape takes part. part };
 
-    ghost local = { λ s input rect shape takes part. local_by (λ t. t) (λ t at. balanced_at s at) input rect rect part (balanced_rests s input.planes rect) };
+    ghost local = { λ s input rect shape takes part. local_by (λ t. t) (λ t at. balanced_at s at) input rect rect part
+        (balanced_rests s input.planes rect) };
 
     ghost equal_alike = { same_balances };
 }

@@ -2,7 +2,7 @@
 
 ghost use Rattle.std.specs.Prelude.{◌≡◌, ℕ, ◌+◌, ◌*◌, ◌/◌, ◌<◌, ◌≤◌, ◌^◌, List, length, slice_index, All};
 ghost use Rattle.colour_matrix.specs.Balances.{Balancing, IsGain, balanced_value};
-ghost use Rattle.colour_matrix.specs.BalanceRows.{AreDigits, AreSmall, HasFactors, AreBalanced};
+ghost use Rattle.colour_matrix.specs.inner.BalanceRows.{AreDigits, AreSmall, HasFactors, AreBalanced};
 
 /// How many samples are balanced together: some pixels of three planes.
 pub(crate) const GROUP: usize = 384;
@@ -45,7 +45,8 @@ fn balanced(sample: u16, top: u16, high: u16, low: u16) -> u16
     requires top { top ≤ 16384 }
     requires high { high < 2 ^ 15 }
     requires low { low < 2 ^ 15 }
-    ensures { (gain exposure : ℕ) → AreDigits (gain * exposure) top high low → result ≡ balanced_value gain exposure sample }
+    ensures { (gain exposure : ℕ) → AreDigits (gain * exposure) top high low
+        → result ≡ balanced_value gain exposure sample }
 {
     let sample = u32::from(sample);
     let lowest = (sample * u32::from(low) + (1 << 21)) / (1 << 15);
@@ -57,7 +58,8 @@ fn balanced(sample: u16, top: u16, high: u16, low: u16) -> u16
 pub(crate) fn balance_group(from: &[u16], digits: &Digits, out: &mut [u16])
     requires same { length from.now ≡ length out.old }
     requires few { length out.old ≤ 384 }
-    ensures { (s : Balancing) → HasFactors s digits.now.top digits.now.high digits.now.low 384 → AreBalanced s from.now out.new }
+    ensures { (s : Balancing) → HasFactors s digits.now.top digits.now.high digits.now.low 384
+        → AreBalanced s from.now out.new }
 {
     for i in 0..out.len() {
         out[i] = balanced(from[i], digits.top[i], digits.high[i], digits.low[i]);

@@ -2,8 +2,8 @@
 
 ghost use Rattle.std.specs.Prelude.{◌≡◌, ℕ, ◌+◌, ◌*◌, ◌%◌, ◌<◌, ◌≤◌, List, length, slice_index, min, All};
 ghost use Rattle.colour_matrix.specs.Balances.{Balancing, IsGain, balanced_value};
-ghost use Rattle.colour_matrix.specs.BalanceRows.{AreBalanced, HasShort, HasFactors};
-ghost use Rattle.colour_matrix.specs.Factors.{AreFactors};
+ghost use Rattle.colour_matrix.specs.inner.BalanceRows.{AreBalanced, HasShort, HasFactors};
+ghost use Rattle.colour_matrix.specs.inner.Factors.{AreFactors};
 
 use crate::digit_products::{self, Digits, GROUP};
 

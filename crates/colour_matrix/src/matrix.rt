@@ -1,12 +1,14 @@
 //! A colour matrix as a stage.
 
-ghost use Rattle.std.specs.Prelude.{◌≡◌, ◌*◌, ◌<◌, ◌≤◌, List, ℤ, pos, neg_ℤ, ◌+ℤ◌, ◌*ℤ◌, ◌≤ℤ◌, unsigned_abs, All, IsTrue, ◌↔◌, length};
+ghost use Rattle.std.specs.Prelude.{◌≡◌, ◌*◌, ◌<◌, ◌≤◌, List, ℤ, pos, neg_ℤ, ◌+ℤ◌, ◌*ℤ◌, ◌≤ℤ◌, unsigned_abs, All};
+ghost use Rattle.std.specs.Prelude.{IsTrue, ◌↔◌, length};
 ghost use Rattle.std.specs.Int.{int_div_euclid};
 ghost use Rattle.plane_view.specs.Lent.{HasRun, sample_at};
 ghost use Rattle.plane_view.specs.Rectangles.{width};
 ghost use Rattle.plane_view.specs.Rows.{IsRowOf};
-ghost use Rattle.colour_matrix.specs.Matrices.{IsEntry, IsForwardEntry, matrixed, matrixed_at, forward_matrix, camera_matrix};
-ghost use Rattle.colour_matrix.specs.MatrixRows.{AreRows, HaveDigits, product_with};
+ghost use Rattle.colour_matrix.specs.Matrices.{IsEntry, IsForwardEntry, matrixed, matrixed_at, forward_matrix};
+ghost use Rattle.colour_matrix.specs.Matrices.{camera_matrix};
+ghost use Rattle.colour_matrix.specs.inner.MatrixRows.{AreRows, HaveDigits, product_with};
 
 use crate::matrix_rows::{Rows, map_pixels};
 use plane_view::{Rect, Shape, TileMut, View};
@@ -86,8 +88,8 @@ impl Matrix {
         Matrix { entries: c }
     }
 
-    /// The matrix from balanced samples to linear light of the primaries of IEC 61966-2-1 (sRGB), by a forward matrix (DNG
-    /// 1.6, ForwardMatrix1) whose entries, row by row, are in 65536ths and within 2^20 of 0.
+    /// The matrix from balanced samples to linear light of the primaries of IEC 61966-2-1 (sRGB), by a forward matrix
+    /// (DNG 1.6, ForwardMatrix1) whose entries, row by row, are in 65536ths and within 2^20 of 0.
     pub fn forward(f: &[i32; 9]) -> Matrix
         requires { All IsForwardEntry f.now }
         ensures { result ≡ forward_matrix f.now }
@@ -177,7 +179,8 @@ impl Stage for Matrix {
 
     ghost needs_part = { λ s input rect shape takes part. part };
 
-    ghost local = { λ s input rect shape takes part. local_by (λ t. t) (λ t at. matrixed_at s at) input rect rect part (matrixed_rests s input.planes rect takes) };
+    ghost local = { λ s input rect shape takes part. local_by (λ t. t) (λ t at. matrixed_at s at) input rect rect part
+        (matrixed_rests s input.planes rect takes) };
 
     ghost equal_alike = { same_matrices };
 }

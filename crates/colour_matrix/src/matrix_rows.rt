@@ -2,7 +2,8 @@
 
 ghost use Rattle.std.specs.Prelude.{◌≡◌, ℕ, ◌+◌, ◌*◌, ◌/◌, ◌<◌, ◌≤◌, ◌^◌, ℤ, List, [], ◌∷◌, length, All};
 ghost use Rattle.colour_matrix.specs.Matrices.{IsEntry};
-ghost use Rattle.colour_matrix.specs.MatrixRows.{IsRaised, IsRow, AreRows, AreDigits, HaveDigits, HasMatrixed, product_of, with_pixel};
+ghost use Rattle.colour_matrix.specs.inner.MatrixRows.{IsRaised, IsRow, AreRows, AreDigits, HaveDigits, HasMatrixed};
+ghost use Rattle.colour_matrix.specs.inner.MatrixRows.{product_of, with_pixel};
 
 /// An entry of a matrix that was raised by 2^24, in two digits whose products with a sample have 32 bits: what is above
 /// 14 bits, and the 14 lowest.
@@ -68,7 +69,8 @@ impl Row {
     #[inline(always)]
     fn times(self, pixel: Pixel) -> u16
         requires { AreDigits self }
-        ensures { (red green blue : ℤ) → IsRow red green blue self → result ≡ product_of red green blue pixel.red pixel.green pixel.blue }
+        ensures { (red green blue : ℤ) → IsRow red green blue self
+            → result ≡ product_of red green blue pixel.red pixel.green pixel.blue }
     {
         let red = u32::from(pixel.red);
         let green = u32::from(pixel.green);

@@ -1,5 +1,6 @@
 -- Black levels of an area.
-use Rattle.std.proofs.Common.{◌≡◌, ℕ, ◌+◌, ◌*◌, ◌/◌, ◌%◌, ◌<◌, ◌≤◌, ℤ, pos, List, length, get_or, map, sym, ◌∙◌, ap, arith}
+use Rattle.std.proofs.Common.{◌≡◌, ℕ, ◌+◌, ◌*◌, ◌/◌, ◌%◌, ◌<◌, ◌≤◌, ℤ, pos, List, length, get_or, map, sym, ◌∙◌, ap}
+use Rattle.std.proofs.Common.{arith}
 use Rattle.std.specs.List.{range_with_len}
 use Rattle.std.proofs.lemmas.List.{ext_get_or}
 use Rattle.std.proofs.lemmas.List.FromFn.{length-map-range_with_len, get_or-map-range_with_len}
@@ -11,23 +12,27 @@ use Rattle.dng_tags.specs.declared.record.Levels.{Levels}
 use Rattle.linearise.specs.Blacks.{area_of, black_by}
 
 -- a level of an area, by its place
-pub area_at : (rows cols : ℕ) (f : ℕ → ℕ → ℤ) (r c : ℕ) → r < rows → c < cols → get_or (area_of rows cols f) (r * cols + c) (pos 0) ≡ f r c
+pub area_at : (rows cols : ℕ) (f : ℕ → ℕ → ℤ) (r c : ℕ) → r < rows → c < cols
+    → get_or (area_of rows cols f) (r * cols + c) (pos 0) ≡ f r c
 unfolding area_of
 area_at rows cols f r c in_rows in_cols =
     let within : r * cols + c < rows * cols = omega (arith, mul-add-lt r cols c rows in_rows in_cols) in
-    get_or-map-range_with_len (λ i. f (i / cols) (i % cols)) 0 (rows * cols) (r * cols + c) (r * cols + c) (pos 0) within (omega arith)
+    get_or-map-range_with_len (λ i. f (i / cols) (i % cols)) 0 (rows * cols) (r * cols + c) (r * cols + c) (pos 0)
+    within (omega arith)
     ∙ ap (λ i. f i ((r * cols + c) % cols)) (div-mul-add r cols c in_cols)
     ∙ ap (λ i. f r i) (mod-mul-add r cols c in_cols)
 
 -- the same levels at each place
-pub area_same : (rows cols : ℕ) (f g : ℕ → ℕ → ℤ) → 1 ≤ cols → ((r c : ℕ) → r < rows → c < cols → f r c ≡ g r c) → area_of rows cols f ≡ area_of rows cols g
+pub area_same : (rows cols : ℕ) (f g : ℕ → ℕ → ℤ) → 1 ≤ cols → ((r c : ℕ) → r < rows → c < cols → f r c ≡ g r c)
+    → area_of rows cols f ≡ area_of rows cols g
 unfolding area_of
 area_same rows cols f g some same =
     let by_f : ℕ → ℤ = λ i. f (i / cols) (i % cols) in
     let by_g : ℕ → ℤ = λ i. g (i / cols) (i % cols) in
     let n : ℕ = rows * cols in
     let long_f = length-map-range_with_len by_f 0 n in
-    ext_get_or (pos 0) (map by_f (range_with_len 0 n)) (map by_g (range_with_len 0 n)) (long_f ∙ sym (length-map-range_with_len by_g 0 n))
+    ext_get_or (pos 0) (map by_f (range_with_len 0 n)) (map by_g (range_with_len 0 n)) (long_f
+    ∙ sym (length-map-range_with_len by_g 0 n))
     (λ i before.
     let within : i < n = omega (arith, long_f) in
     get_or-map-range_with_len by_f 0 n i i (pos 0) within (omega arith)
@@ -35,12 +40,15 @@ area_same rows cols f g some same =
     ∙ sym (get_or-map-range_with_len by_g 0 n i i (pos 0) within (omega arith)))
 
 -- two areas with the same levels have them at each place
-pub area_points : (rows cols : ℕ) (f g : ℕ → ℕ → ℤ) → area_of rows cols f ≡ area_of rows cols g → (r c : ℕ) → r < rows → c < cols → f r c ≡ g r c
+pub area_points : (rows cols : ℕ) (f g : ℕ → ℕ → ℤ) → area_of rows cols f ≡ area_of rows cols g → (r c : ℕ) → r < rows
+    → c < cols → f r c ≡ g r c
 area_points rows cols f g same r c in_rows in_cols =
-    sym (area_at rows cols f r c in_rows in_cols) ∙ ap (λ xs. get_or xs (r * cols + c) (pos 0)) same ∙ area_at rows cols g r c in_rows in_cols
+    sym (area_at rows cols f r c in_rows in_cols) ∙ ap (λ xs. get_or xs (r * cols + c) (pos 0)) same
+    ∙ area_at rows cols g r c in_rows in_cols
 
 -- the levels of the columns in each row of the pattern, and what the rows add, make the black levels
-pub levels_are : (levels : Levels) (rows cols : ℕ) (across down : List ℤ) → 1 ≤ cols → 1 ≤ levels.black_rows → length across ≡ levels.black_rows * cols → length down ≡ rows
+pub levels_are : (levels : Levels) (rows cols : ℕ) (across down : List ℤ) → 1 ≤ cols → 1 ≤ levels.black_rows
+    → length across ≡ levels.black_rows * cols → length down ≡ rows
     → ((k : ℕ) → k < length across → get_or across k (pos 0) ≡ across_at levels (k / cols) (k % cols))
     → ((k : ℕ) → k < length down → get_or down k (pos 0) ≡ get_or levels.delta_v k (pos 0))
     → area_of rows cols (black_by cols levels.black_rows across down) ≡ area_of rows cols (black_at levels)

@@ -1,13 +1,15 @@
 -- Multiplying and shifting give the quotient.
-use Rattle.std.proofs.Common.{◌≡◌, ℕ, ◌+◌, ◌-◌, ◌*◌, ◌/◌, ◌%◌, ◌^◌, ◌<◌, ◌≤◌, inl, inr, refl, subst, sym, ◌∙◌, ap, arith, min, ℤ, pos, negsuc}
+use Rattle.std.proofs.Common.{◌≡◌, ℕ, ◌+◌, ◌-◌, ◌*◌, ◌/◌, ◌%◌, ◌^◌, ◌<◌, ◌≤◌, inl, inr, refl, subst, sym, ◌∙◌, ap}
+use Rattle.std.proofs.Common.{arith, min, ℤ, pos, negsuc}
 use Rattle.std.specs.Prelude.{◌+ℤ◌, ◌*ℤ◌, ◌<ℤ◌}
 use Rattle.std.specs.Int.{int_div_euclid}
 use Rattle.std.proofs.Math.Nat.{mul-le-mul_left, mul-add-div_right}
 use Rattle.std.proofs.lemmas.Bool.{cases_lt}
 use Rattle.std.proofs.lemmas.Int.{ints}
-use Rattle.std.proofs.lemmas.Nat.{div-add-mod', div-mul-add, div_below, le-div, mod_below, mul-le, pow-add, shr-shr, shr_split}
+use Rattle.std.proofs.lemmas.Nat.{div-add-mod', div-mul-add, div_below, le-div, mod_below, mul-le, pow-add, shr-shr}
+use Rattle.std.proofs.lemmas.Nat.{shr_split}
 use Rattle.linearise.specs.Linear.{clipped, rescaled}
-use Rattle.linearise.specs.Scales.{IsFactor, IsScale, held_of, part_of}
+use Rattle.linearise.specs.inner.Scales.{IsFactor, IsScale, held_of, part_of}
 
 -- a common factor of two sides goes away
 cancel : (k a b : ℕ) → 1 ≤ k → k * a < k * b + k → a ≤ b
@@ -35,8 +37,10 @@ quotient_is span half factor x some wide is within =
     let by_half : (q * (2 * span) + r) * half ≡ n * half = ap (λ m. m * half) split in
     let product : x * e ≤ span * span = mul-le x e span span within small in
     let room : (r + 1) * half ≤ 2 * span * half = mul-le (r + 1) half (2 * span) half (omega arith) (omega arith) in
-    let low : q * (2 * half) ≤ x * factor + half = cancel (2 * span) (q * (2 * half)) (x * factor + half) (omega arith) (omega arith) in
-    let high : x * factor + half + 1 ≤ q * (2 * half) + 2 * half = cancel (2 * span) (x * factor + half + 1) (q * (2 * half) + 2 * half) (omega arith) (omega arith) in
+    let low : q * (2 * half) ≤ x * factor + half = cancel (2 * span) (q * (2 * half)) (x * factor + half) (omega arith)
+    (omega arith) in
+    let high : x * factor + half + 1 ≤ q * (2 * half) + 2 * half =
+    cancel (2 * span) (x * factor + half + 1) (q * (2 * half) + 2 * half) (omega arith) (omega arith) in
     let left : ℕ = x * factor + half - q * (2 * half) in
     let whole : x * factor + half ≡ q * (2 * half) + left = omega arith in
     ap (λ m. m / (2 * half)) whole ∙ div-mul-add q (2 * half) left (omega arith)
@@ -49,7 +53,8 @@ halves factor = shr_split factor 32
 pub by_halves : (x high low half shift : ℕ) → half ≡ 2 ^ (shift + 31)
     → (x * high + (x * low + half) / 2 ^ 32) / 2 ^ shift ≡ (x * (high * 2 ^ 32 + low) + half) / (2 * half)
 by_halves x high low half shift is =
-    let joined : (x * high * 2 ^ 32 + (x * low + half)) / 2 ^ 32 ≡ x * high + (x * low + half) / 2 ^ 32 = mul-add-div_right (omega arith) (x * high) (x * low + half) in
+    let joined : (x * high * 2 ^ 32 + (x * low + half)) / 2 ^ 32 ≡ x * high + (x * low + half) / 2 ^ 32 =
+    mul-add-div_right (omega arith) (x * high) (x * low + half) in
     let sum : x * high * 2 ^ 32 + (x * low + half) ≡ x * (high * 2 ^ 32 + low) + half = omega arith in
     let twice : 2 ^ (32 + shift) ≡ 2 * half =
     ap (λ m. 2 ^ m) (omega arith) ∙ pow-add 2 (shift + 31) 1 ∙ (omega (arith, is)) in
@@ -62,7 +67,8 @@ by_halves x high low half shift is =
 pub part_is : (span high low half shift x : ℕ) → IsScale span high low half shift → x ≤ span
     → (x * high + (x * low + half) / 2 ^ 32) / 2 ^ shift ≡ part_of span x
 part_is span high low half shift x is within =
-    by_halves x high low half shift is.half_is ∙ quotient_is span half (high * 2 ^ 32 + low) x is.some is.wide is.factor within
+    by_halves x high low half shift is.half_is ∙ quotient_is span half (high * 2 ^ 32 + low) x is.some is.wide is.factor
+    within
 
 -- the half of a short shift
 half_of_short : (half shift : ℕ) → half ≡ 2 ^ (shift + 31) → shift ≡ 16 → half ≡ 2 ^ 47
@@ -108,7 +114,8 @@ unfolding rescaled
 rescaled_is span (pos x) some =
     elim (cases_lt span x) [
       | inl above ↦
-          let top : part_of span span ≡ 65535 = ap (λ m. m / (2 * span)) (omega arith) ∙ div-mul-add 65535 (2 * span) span (omega arith) in
+          let top : part_of span span ≡ 65535 = ap (λ m. m / (2 * span)) (omega arith)
+          ∙ div-mul-add 65535 (2 * span) span (omega arith) in
           let big : 65535 ≤ part_of span x = le-div 65535 (131070 * x + span) (2 * span) (omega arith) (omega arith) in
           let held : min x span ≡ span = omega arith in
           rw held (rw top (omega arith))
@@ -118,5 +125,6 @@ rescaled_is span (pos x) some =
           rw held (omega arith)
     ]
 rescaled_is span (negsuc n) some =
-    let zero_is : part_of span 0 ≡ 0 = ap (λ m. m / (2 * span)) (omega arith) ∙ div-mul-add 0 (2 * span) span (omega arith) in
+    let zero_is : part_of span 0 ≡ 0 = ap (λ m. m / (2 * span)) (omega arith)
+    ∙ div-mul-add 0 (2 * span) span (omega arith) in
     clips_low (pos 131070 *ℤ negsuc n +ℤ pos span) (2 * span) (omega arith) (omega (arith, ints)) ∙ sym zero_is

@@ -1,4 +1,4 @@
--- The levels of a frame are those of a stage, without settings.
+-- Laws of the levels of a frame, where there are no settings: this project's own.
 use Rattle.std.proofs.Common.{◌≡◌, ℕ, None, pos, refl, arith}
 use Rattle.std.specs.Prelude.{◌≤ℤ◌}
 use Rattle.std.proofs.lemmas.Int.{ints}
@@ -12,5 +12,6 @@ pub under_none : (levels : Levels) → under levels None None ≡ levels
 under_none levels = refl
 
 -- and their white level is above every black level, so that a stage of them is never refused for its levels
-pub frame_spans : (levels : Levels) (rows cols : ℕ) → AreLevels levels rows cols → span_of (under levels None None) rows cols ≤ℤ pos 0 → ⊥
+pub frame_spans : (levels : Levels) (rows cols : ℕ) → AreLevels levels rows cols
+    → span_of (under levels None None) rows cols ≤ℤ pos 0 → ⊥
 frame_spans levels rows cols are below = omega (arith, ints, are.span, below)

@@ -1,11 +1,8 @@
 pub mod Blacks
 pub mod Equal
 pub mod FrameLevels
-pub mod Held
 pub mod Laws
 pub mod Linear
 pub mod Parameters
-pub mod Rows
-pub mod Scales
-pub mod Seen
 pub mod Settings
+pub mod inner

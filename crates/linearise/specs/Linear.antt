@@ -1,6 +1,7 @@
 -- Linear values of raw ones (DNG 1.6, chapter 5, "Mapping Raw Values to Linear Reference Values": linearization, black
 -- subtraction, rescaling, clipping). The rounding, and levels in 256ths, are this project's own.
-use Rattle.std.specs.Prelude.{ℕ, ◌-◌, ◌*◌, ◌==◌, min, if◌then◌else◌, ℤ, pos, negsuc, ◌+ℤ◌, ◌-ℤ◌, ◌*ℤ◌, List, length, slice_index}
+use Rattle.std.specs.Prelude.{ℕ, ◌-◌, ◌*◌, ◌==◌, min, if◌then◌else◌, ℤ, pos, negsuc, ◌+ℤ◌, ◌-ℤ◌, ◌*ℤ◌, List, length}
+use Rattle.std.specs.Prelude.{slice_index}
 use Rattle.std.specs.Int.{int_div_euclid}
 
 -- what a sample becomes by the linearisation table: the last entry where it is past the table; an empty table changes
@@ -13,8 +14,8 @@ abbrev pub clipped : ℤ → ℕ
 clipped (pos n) = min n 65535
 clipped (negsuc n) = 0
 
--- a level above black, where white is `span` above the greatest black, as a part of 65535: rounded to the nearest number, a
--- half up, and held within 0 and 65535
+-- a level above black, where white is `span` above the greatest black, as a part of 65535: rounded to the nearest
+-- number, a half up, and held within 0 and 65535
 unfoldable pub rescaled : (span above : ℤ) → ℕ
 rescaled span above = clipped (int_div_euclid (pos 131070 *ℤ above +ℤ span) (pos 2 *ℤ span))
 

@@ -1,5 +1,5 @@
--- What a stage of linear values rests on, and the plane that it makes. The values are those of DNG 1.6, chapter 5, "Mapping
--- Raw Values to Linear Reference Values"; the stage is this project's own.
+-- What a stage of linear values rests on, and the plane that it makes. The values are those of DNG 1.6, chapter 5,
+-- "Mapping Raw Values to Linear Reference Values"; the stage is this project's own.
 use Rattle.std.specs.Prelude.{◌≡◌, ℕ, ◌+◌, ◌*◌, ◌&&◌, nat_eq, Bool, ℤ, pos, List, slice_index_or}
 use Rattle.std.specs.Cmp.Lexicographic.{pointwise}
 use Rattle.std.specs.Ordering.{int_eq}
@@ -11,8 +11,8 @@ use Rattle.dng_tags.specs.declared.record.Levels.{Levels}
 use Rattle.linearise.specs.Blacks.{area_of}
 use Rattle.linearise.specs.Linear.{by_table, linear_at}
 
--- an area's numbers of rows and columns, the table, the black level of each place, row by row, and how far the white level is
--- above the greatest of them; levels in 256ths
+-- an area's numbers of rows and columns, the table, the black level of each place, row by row, and how far the white
+-- level is above the greatest of them; levels in 256ths
 pub record Parameters : Type 0 where
   pub rows : ℕ
   pub cols : ℕ
@@ -23,7 +23,13 @@ pub record Parameters : Type 0 where
 -- what levels give over an area of this many rows and columns
 abbrev pub parameters : Levels → (rows cols : ℕ) → Parameters
 parameters levels rows cols =
-    record { rows = rows; cols = cols; table = levels.table; blacks = area_of rows cols (black_at levels); span = span_of levels rows cols }
+    record {
+      rows = rows;
+      cols = cols;
+      table = levels.table;
+      blacks = area_of rows cols (black_at levels);
+      span = span_of levels rows cols;
+    }
 
 -- planes of one sample a pixel that are as large as the area
 pub record IsArea (s : Parameters) (input : Shape) : Type 0 where
@@ -46,4 +52,6 @@ linear_plane s P = plane_by (shape_of P) (linear_of s (sample P))
 -- whether two are the same
 unfoldable pub same_parameters : Parameters → Parameters → Bool
 same_parameters s t =
-    nat_eq s.rows t.rows && (nat_eq s.cols t.cols && (pointwise nat_eq s.table t.table && (pointwise int_eq s.blacks t.blacks && int_eq s.span t.span)))
+    nat_eq s.rows t.rows
+    && (nat_eq s.cols t.cols
+    && (pointwise nat_eq s.table t.table && (pointwise int_eq s.blacks t.blacks && int_eq s.span t.span)))

@@ -6,7 +6,15 @@ use Rattle.dng_tags.specs.declared.record.Levels.{Levels}
 abbrev pub with_black : Levels → Option ℕ → Levels
 with_black levels None = levels
 with_black levels (Some n) =
-    record { table = levels.table; black_rows = 1; black_cols = 1; black = pos (256 * n) ∷ []; delta_h = []; delta_v = []; white = levels.white }
+    record {
+      table = levels.table;
+      black_rows = 1;
+      black_cols = 1;
+      black = pos (256 * n) ∷ [];
+      delta_h = [];
+      delta_v = [];
+      white = levels.white;
+    }
 
 -- the white level that counts
 abbrev pub white_under : Levels → Option ℕ → ℕ
@@ -15,7 +23,15 @@ white_under levels white = unwrap_or white levels.white
 -- levels with a white level
 abbrev pub with_white : Levels → Option ℕ → Levels
 with_white levels white =
-    record { table = levels.table; black_rows = levels.black_rows; black_cols = levels.black_cols; black = levels.black; delta_h = levels.delta_h; delta_v = levels.delta_v; white = white_under levels white }
+    record {
+      table = levels.table;
+      black_rows = levels.black_rows;
+      black_cols = levels.black_cols;
+      black = levels.black;
+      delta_h = levels.delta_h;
+      delta_v = levels.delta_v;
+      white = white_under levels white;
+    }
 
 -- levels with the black and the white of settings, where these are there
 abbrev pub under : Levels → (black white : Option ℕ) → Levels

@@ -1,6 +1,7 @@
 //! The black levels of an area.
 
-ghost use Rattle.std.specs.Prelude.{◌≡◌, ℕ, ◌+◌, ◌-◌, ◌*◌, ◌/◌, ◌%◌, ◌<◌, ◌≤◌, ◌↔◌, pos, ◌+ℤ◌, length, slice_index_or, IfOk, IsTrue};
+ghost use Rattle.std.specs.Prelude.{◌≡◌, ℕ, ◌+◌, ◌-◌, ◌*◌, ◌/◌, ◌%◌, ◌<◌, ◌≤◌, ◌↔◌, pos, ◌+ℤ◌, length, slice_index_or};
+ghost use Rattle.std.specs.Prelude.{IfOk, IsTrue};
 ghost use Rattle.dng_tags.specs.Black.{black_at};
 ghost use Rattle.dng_tags.specs.Facts.{AreDeltas, AreRanged, IsBlackPattern};
 ghost use Rattle.tag_rules.specs.Quantities.{AreWithin, IsWithin};
@@ -11,8 +12,8 @@ use dng_tags::Levels;
 use lists::Items;
 use std::alloc::{AllocError, Global};
 
-/// The black level of each place of an area, in 256ths: that of the column in each row of the pattern, and what each row
-/// adds.
+/// The black level of each place of an area, in 256ths: that of the column in each row of the pattern, and what each
+/// row adds.
 #[derive(Debug, Drop)]
 pub(crate) struct Blacks {
     pub(crate) rows: u32,
@@ -27,7 +28,7 @@ pub(crate) struct Blacks {
 }
 
 impl Blacks {
-    ghost use Rattle.linearise.specs.Held.{SameRow, blacks_in};
+    ghost use Rattle.linearise.specs.inner.Held.{SameRow, blacks_in};
 
     /// The black levels of an area of so many rows and columns.
     pub(crate) fn of_levels(
@@ -64,7 +65,8 @@ impl Blacks {
         requires right { right ≤ self.now.cols }
         ensures long { length result.now ≡ right - left }
         ensures within { AreWithin 33554432 result.now }
-        ensures levels { (k : ℕ) → k < right - left → slice_index_or result.now k (pos 0) ≡ slice_index_or self.now.across (r % self.now.repeat * self.now.cols + (left + k)) (pos 0) }
+        ensures levels { (k : ℕ) → k < right - left → slice_index_or result.now k (pos 0)
+            ≡ slice_index_or self.now.across (r % self.now.repeat * self.now.cols + (left + k)) (pos 0) }
     {
         let start = (r % self.repeat * self.cols + left) as usize;
         &self.across.as_slice()[start..start + (right - left) as usize]
@@ -132,7 +134,8 @@ fn same_sums(xs: &[i32], x: i32, ys: &[i32], y: i32) -> bool
     requires x { IsWithin 16777216 x }
     requires ys { AreWithin 33554432 ys.now }
     requires y { IsWithin 16777216 y }
-    ensures { IsTrue result ↔ ((k : ℕ) → k < length xs.now → slice_index_or xs.now k (pos 0) +ℤ x ≡ slice_index_or ys.now k (pos 0) +ℤ y) }
+    ensures { IsTrue result ↔ ((k : ℕ) → k < length xs.now → slice_index_or xs.now k (pos 0) +ℤ x
+        ≡ slice_index_or ys.now k (pos 0) +ℤ y) }
 {
     for k in 0..xs.len() {
         if !same_sum(xs[k], x, ys[k], y) {
@@ -171,7 +174,8 @@ fn across_levels(alloc: Global, levels: &Levels, cols: u32) -> Result<Items<i32>
     requires delta_h { AreDeltas levels.now.delta_h cols }
     ensures long { IfOk result (λ across. length across ≡ levels.now.black_rows * cols) }
     ensures within { IfOk result (λ across. AreWithin 33554432 across) }
-    ensures levels { IfOk result (λ across. (k : ℕ) → k < length across → slice_index_or across k (pos 0) ≡ across_at levels.now (k / cols) (k % cols)) }
+    ensures levels { IfOk result (λ across. (k : ℕ) → k < length across → slice_index_or across k (pos 0)
+        ≡ across_at levels.now (k / cols) (k % cols)) }
 {
     let mut across = vec![in alloc; 0; (levels.black_rows * cols) as usize]?;
     fill_across(levels, cols, across.as_mut_slice());
@@ -183,7 +187,8 @@ fn down_levels(alloc: Global, deltas: &Items<i32>, rows: u32) -> Result<Items<i3
     requires { AreWithin 16777216 deltas.now }
     ensures long { IfOk result (λ down. length down ≡ rows) }
     ensures within { IfOk result (λ down. AreWithin 16777216 down) }
-    ensures levels { IfOk result (λ down. (k : ℕ) → k < length down → slice_index_or down k (pos 0) ≡ slice_index_or deltas.now k (pos 0)) }
+    ensures levels { IfOk result (λ down. (k : ℕ) → k < length down → slice_index_or down k (pos 0)
+        ≡ slice_index_or deltas.now k (pos 0)) }
 {
     let mut down = vec![in alloc; 0; rows as usize]?;
     fill_down(deltas, down.as_mut_slice());
@@ -198,7 +203,8 @@ fn fill_across(levels: &Levels, cols: u32, out: &mut [i32])
     requires delta_h { AreDeltas levels.now.delta_h cols }
     requires long { length out.old ≡ levels.now.black_rows * cols }
     ensures within { AreWithin 33554432 out.new }
-    ensures levels { (k : ℕ) → k < length out.new → slice_index_or out.new k (pos 0) ≡ across_at levels.now (k / cols) (k % cols) }
+    ensures levels { (k : ℕ) → k < length out.new → slice_index_or out.new k (pos 0) ≡ across_at levels.now (k / cols)
+        (k % cols) }
 {
     let cols = cols as usize;
     for k in 0..out.len() {
@@ -241,7 +247,8 @@ fn delta_at(deltas: &[i32], at: usize) -> i32
 fn fill_down(deltas: &Items<i32>, out: &mut [i32])
     requires { AreWithin 16777216 deltas.now }
     ensures within { AreWithin 16777216 out.new }
-    ensures levels { (k : ℕ) → k < length out.new → slice_index_or out.new k (pos 0) ≡ slice_index_or deltas.now k (pos 0) }
+    ensures levels { (k : ℕ) → k < length out.new → slice_index_or out.new k (pos 0) ≡ slice_index_or deltas.now k
+        (pos 0) }
 {
     for k in 0..out.len() {
         out[k] = delta_at(deltas.as_slice(), k);

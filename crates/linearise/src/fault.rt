@@ -1,5 +1,6 @@
 //! Why linear values can't be made.
 
+use std::alloc::AllocError;
 use std::error::Error;
 use std::fmt;
 
@@ -8,7 +9,7 @@ use std::fmt;
 pub enum LineariseFault {
     /// The white level isn't above every black level of the area.
     Levels,
-    /// There was no memory for the black levels and the table.
+    /// Out of memory, for the black levels or the table.
     Memory,
 }
 
@@ -16,9 +17,20 @@ impl fmt::Display for LineariseFault {
     fn fmt<W: fmt::Write>(&self, f: &mut fmt::Formatter<W>) -> fmt::Result {
         match self {
             LineariseFault::Levels => write!(f, "the white level isn't above every black level"),
-            LineariseFault::Memory => write!(f, "memory ran out"),
+            LineariseFault::Memory => write!(f, "out of memory"),
         }
     }
 }
 
 impl Error for LineariseFault {}
+
+impl From<AllocError> for LineariseFault {
+    ghost use Rattle.std.specs.Prelude.{◌≡◌};
+    ghost use Rattle.linearise.specs.declared.fault.LineariseFault.TheVariants.{Memory};
+
+    ghost from_gives = { λ _ fault. fault ≡ Memory };
+
+    fn from(_: AllocError) -> LineariseFault {
+        LineariseFault::Memory
+    }
+}

@@ -1,5 +1,5 @@
-//! Linear values of raw ones: the linearisation table, the black levels, and the scale from black to white (DNG 1.6, chapter
-//! 5, "Mapping Raw Values to Linear Reference Values").
+//! Linear values of raw ones: the linearisation table, the black levels, and the scale from black to white (DNG 1.6,
+//! chapter 5, "Mapping Raw Values to Linear Reference Values").
 #![tactic(auto)]
 
 mod blacks;

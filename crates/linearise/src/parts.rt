@@ -28,7 +28,7 @@ pub(crate) struct Parts {
 }
 
 impl Parts {
-    ghost use Rattle.linearise.specs.Seen.{seen};
+    ghost use Rattle.linearise.specs.inner.Seen.{seen};
 
     /// What the levels of an area of so many rows and columns give, with a span of white above black. `black` counts
     /// everywhere in place of their black levels.
@@ -50,7 +50,8 @@ impl Parts {
         ensures rows { IfOk result (λ parts. (seen parts).rows ≡ rows) }
         ensures cols { IfOk result (λ parts. (seen parts).cols ≡ cols) }
         ensures table { IfOk result (λ parts. (seen parts).table ≡ levels.now.table) }
-        ensures blacks { IfOk result (λ parts. (seen parts).blacks ≡ area_of rows cols (black_at (with_black levels.now black))) }
+        ensures blacks { IfOk result (λ parts. (seen parts).blacks
+            ≡ area_of rows cols (black_at (with_black levels.now black))) }
         ensures span { IfOk result (λ parts. (seen parts).span ≡ pos span) }
     {
         let blacks = blacks_of(alloc, levels, rows, cols, black)?;

@@ -2,7 +2,7 @@
 
 ghost use Rattle.std.specs.Prelude.{◌≡◌, ◌*◌, ◌<◌, pos, ◌+ℤ◌, ◌-ℤ◌, length, IsTrue};
 ghost use Rattle.tag_rules.specs.Quantities.{AreWithin, IsWithin};
-ghost use Rattle.linearise.specs.Rows.{IsLinearTo, IsTabled};
+ghost use Rattle.linearise.specs.inner.Rows.{IsLinearTo, IsTabled};
 
 use crate::scale::Scale;
 
@@ -22,8 +22,8 @@ pub(crate) fn look_up(table: &[u16], samples: &[u16], out: &mut [u16])
     }
 }
 
-/// Makes linear values of the samples of a row, in their place. `across` has the black level of each column, and `down` is
-/// what the row adds.
+/// Makes linear values of the samples of a row, in their place. `across` has the black level of each column, and `down`
+/// is what the row adds.
 pub(crate) fn make_linear(scale: Scale, across: &[i32], down: i32, out: &mut [u16])
     requires long { length across.now ≡ length out.old }
     requires across { AreWithin 33554432 across.now }

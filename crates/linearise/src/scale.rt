@@ -2,7 +2,7 @@
 
 ghost use Rattle.std.specs.Prelude.{◌≡◌, ◌+◌, ◌*◌, ◌^◌, ◌<◌, ◌≤◌, pos, IsTrue};
 ghost use Rattle.linearise.specs.Linear.{rescaled};
-ghost use Rattle.linearise.specs.Scales.{IsFactor, IsScale, held_of, part_of};
+ghost use Rattle.linearise.specs.inner.Scales.{IsFactor, IsScale, held_of, part_of};
 
 /// The white level above the greatest black in 256ths, and what stands for dividing by it.
 ///

@@ -4,7 +4,7 @@ ghost use Rattle.std.specs.Prelude.{◌≡◌, ◌*◌, ◌≤◌, ◌^◌, pos,
 ghost use Rattle.dng_tags.specs.Black.{black_at, greatest_black, span_of};
 ghost use Rattle.dng_tags.specs.Facts.{AreRanged};
 ghost use Rattle.linearise.specs.Blacks.{area_of};
-ghost use Rattle.linearise.specs.Held.{blacks_in};
+ghost use Rattle.linearise.specs.inner.Held.{blacks_in};
 ghost use Rattle.linearise.specs.Settings.{under, white_under, with_black};
 
 use crate::blacks::Blacks;
@@ -79,7 +79,8 @@ pub(crate) fn blacks_of(
     requires ranged { AreRanged levels.now rows cols }
     ensures rows { IfOk result (λ blacks. blacks.rows ≡ rows) }
     ensures cols { IfOk result (λ blacks. blacks.cols ≡ cols) }
-    ensures blacks { IfOk result (λ blacks. blacks_in blacks ≡ area_of rows cols (black_at (with_black levels.now black))) }
+    ensures blacks { IfOk result (λ blacks. blacks_in blacks
+        ≡ area_of rows cols (black_at (with_black levels.now black))) }
 {
     match black {
         Some(black) => {

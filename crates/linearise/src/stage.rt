@@ -17,11 +17,11 @@ use std::alloc::Global;
 use std::marker::Model;
 use std::sync::ledger::Ledger;
 
-/// Makes linear values of the raw samples of an area: 0 at black or below, 65535 at white or above. It refuses all but one
-/// plane of the area's numbers of rows and columns.
+/// Makes linear values of the raw samples of an area: 0 at black or below, 65535 at white or above. It refuses all but
+/// one plane of the area's numbers of rows and columns.
 ///
-/// A contract sees it as its `Parameters`: the area's rows and columns, the linearisation table, the black level of each
-/// place, and how far the white level is above the greatest of them. No plane of black levels is kept.
+/// A contract sees it as its `Parameters`: the area's rows and columns, the linearisation table, the black level of
+/// each place, and how far the white level is above the greatest of them. No plane of black levels is kept.
 #[derive(Debug, Drop)]
 pub struct Linearise {
     parts: Parts,
@@ -29,7 +29,7 @@ pub struct Linearise {
 
 impl Model for Linearise {
     ghost use Rattle.linearise.specs.Parameters.{Parameters};
-    ghost use Rattle.linearise.specs.Seen.{seen};
+    ghost use Rattle.linearise.specs.inner.Seen.{seen};
 
     ghost Value = { Parameters };
 
@@ -46,7 +46,7 @@ impl Linearise {
     /// # Errors
     ///
     /// `Levels` exactly where the white level that counts isn't above the greatest black level that counts; `Memory`
-    /// where there was none for the black levels of the columns and rows, and the table.
+    /// where there was no memory for the black levels of the columns and rows, or for the table.
     pub fn new(
         alloc: Global,
         levels: &Levels,
@@ -58,9 +58,12 @@ impl Linearise {
         requires rows { height active ≤ 8192 }
         requires cols { width active ≤ 8192 }
         requires ranged { AreRanged levels.now (height active) (width active) }
-        ensures stage { IfOk result (λ stage. stage ≡ parameters (under levels.now black white) (height active) (width active)) }
-        ensures above { IfOk result (λ _. pos 0 <ℤ span_of (under levels.now black white) (height active) (width active)) }
-        ensures fault { IfErr result (λ fault. (fault ≡ LevelsFault) ↔ (span_of (under levels.now black white) (height active) (width active) ≤ℤ pos 0)) }
+        ensures stage { IfOk result (λ stage. stage ≡ parameters (under levels.now black white) (height active)
+            (width active)) }
+        ensures above { IfOk result (λ _. pos 0 <ℤ span_of (under levels.now black white) (height active)
+            (width active)) }
+        ensures fault { IfErr result (λ fault. (fault ≡ LevelsFault)
+            ↔ (span_of (under levels.now black white) (height active) (width active) ≤ℤ pos 0)) }
     {
         let rows = active.bottom - active.top;
         let cols = active.right - active.left;
@@ -68,10 +71,8 @@ impl Linearise {
         if span <= 0 {
             return Err(LineariseFault::Levels);
         }
-        match Parts::new(alloc, levels, rows, cols, black, span as u32) {
-            Ok(parts) => Ok(Linearise { parts }),
-            Err(_) => Err(LineariseFault::Memory),
-        }
+        let parts = Parts::new(alloc, levels, rows, cols, black, span as u32)?;
+        Ok(Linearise { parts })
     }
 }
 
@@ -137,7 +138,8 @@ impl Stage for Linearise {
 
     ghost needs_part = { λ s input rect shape takes part. part };
 
-    ghost local = { λ s input rect shape takes part. local_by (λ t. t) (λ t at. linear_of s at) input rect rect part (linear_rests s input.planes rect) };
+    ghost local = { λ s input rect shape takes part. local_by (λ t. t) (λ t at. linear_of s at) input rect rect part
+        (linear_rests s input.planes rect) };
 
     ghost equal_alike = { same_stages };
 }

@@ -1,5 +1,5 @@
-//! Linear values of a small plane, computed from the formula by tools/linear_values.py, parts of it against the whole, and
-//! equal stages.
+//! Linear values of a small plane, computed from the formula by tools/linear_values.py, parts of it against the whole,
+//! and equal stages.
 
 ghost use Rattle.std.specs.Prelude.{◌≡◌, ◌<◌, ◌⊎◌, IsTrue};
 ghost use Rattle.dng_tags.specs.Facts.{AreDeltas, AreRanged, IsBlackPattern};
@@ -256,7 +256,8 @@ fn stage_of(alloc: Global, case: &Case<'_>) -> Result<Linearise, LineariseFault>
     Linearise::new(alloc, &levels, AREA, case.black_setting, case.white_setting)
 }
 
-/// Runs a stage over a rectangle, from no more of the plane than it needs. False: the shape is refused, or a size is wrong.
+/// Runs a stage over a rectangle, from no more of the plane than it needs. False: the shape is refused, or a size is
+/// wrong.
 fn develop<L: Ledger>(stage: &Linearise, rect: Rect, out: &mut [u16], blank: Blank) -> bool
     requires name { blank.name ≡ L.name }
     requires parts { blank.parts ≡ L.parts }

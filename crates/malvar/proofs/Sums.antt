@@ -2,28 +2,32 @@
 use Rattle.std.proofs.Common.{◌≡◌, ◌+◌, ◌*◌, pos, ◌-ℤ◌, arith}
 use Rattle.std.proofs.lemmas.Int.{ints}
 use Rattle.malvar.specs.Demosaic.{malvar, bilinear}
-use Rattle.malvar.specs.Around.{weighted}
+use Rattle.malvar.specs.inner.Around.{weighted}
 use Rattle.malvar.specs.declared.filters.Around.{Around}
 
-pub green_sum : (a : Around) → pos (8 * a.centre + 4 * (a.beside + a.upright)) -ℤ pos (2 * (a.beside_far + a.upright_far)) ≡ weighted malvar.green a
+pub green_sum : (a : Around) → pos (8 * a.centre + 4 * (a.horizontal + a.vertical))
+    -ℤ pos (2 * (a.horizontal_far + a.vertical_far)) ≡ weighted malvar.green a
 green_sum a = omega (arith, ints)
 
-pub in_row_sum : (a : Around) → pos (10 * a.centre + 8 * a.beside + a.upright_far) -ℤ pos (2 * (a.diagonal + a.beside_far)) ≡ weighted malvar.in_row a
+pub in_row_sum : (a : Around) → pos (10 * a.centre + 8 * a.horizontal + a.vertical_far)
+    -ℤ pos (2 * (a.diagonal + a.horizontal_far)) ≡ weighted malvar.in_row a
 in_row_sum a = omega (arith, ints)
 
-pub in_column_sum : (a : Around) → pos (10 * a.centre + 8 * a.upright + a.beside_far) -ℤ pos (2 * (a.diagonal + a.upright_far)) ≡ weighted malvar.in_column a
+pub in_column_sum : (a : Around) → pos (10 * a.centre + 8 * a.vertical + a.horizontal_far)
+    -ℤ pos (2 * (a.diagonal + a.vertical_far)) ≡ weighted malvar.in_column a
 in_column_sum a = omega (arith, ints)
 
-pub opposite_sum : (a : Around) → pos (12 * a.centre + 4 * a.diagonal) -ℤ pos (3 * (a.beside_far + a.upright_far)) ≡ weighted malvar.opposite a
+pub opposite_sum : (a : Around) → pos (12 * a.centre + 4 * a.diagonal) -ℤ pos (3 * (a.horizontal_far + a.vertical_far))
+    ≡ weighted malvar.opposite a
 opposite_sum a = omega (arith, ints)
 
-pub green_mean : (a : Around) → pos (4 * (a.beside + a.upright)) -ℤ pos 0 ≡ weighted bilinear.green a
+pub green_mean : (a : Around) → pos (4 * (a.horizontal + a.vertical)) -ℤ pos 0 ≡ weighted bilinear.green a
 green_mean a = omega (arith, ints)
 
-pub in_row_mean : (a : Around) → pos (8 * a.beside) -ℤ pos 0 ≡ weighted bilinear.in_row a
+pub in_row_mean : (a : Around) → pos (8 * a.horizontal) -ℤ pos 0 ≡ weighted bilinear.in_row a
 in_row_mean a = omega (arith, ints)
 
-pub in_column_mean : (a : Around) → pos (8 * a.upright) -ℤ pos 0 ≡ weighted bilinear.in_column a
+pub in_column_mean : (a : Around) → pos (8 * a.vertical) -ℤ pos 0 ≡ weighted bilinear.in_column a
 in_column_mean a = omega (arith, ints)
 
 pub opposite_mean : (a : Around) → pos (4 * a.diagonal) -ℤ pos 0 ≡ weighted bilinear.opposite a

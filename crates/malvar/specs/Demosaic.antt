@@ -1,5 +1,5 @@
--- Demosaicing by a table of weights: Malvar, He and Cutler (2004, figure 2), and the bilinear means. The rounding and the
--- reflection at the edges are this project's own.
+-- Demosaicing by a table of weights: Malvar, He and Cutler (2004, figure 2), and the bilinear means. The rounding and
+-- the reflection at the edges are this project's own.
 use Rattle.std.specs.Prelude.{ℕ, ◌+◌, ◌/◌, nat_eq, min, if◌then◌else◌, ℤ, pos, negsuc, ◌+ℤ◌, ◌*ℤ◌, List}
 use Rattle.plane_view.specs.Plane.{Plane, sample, plane_of}
 use Rattle.plane_view.specs.Reflect.{reflected}
@@ -10,11 +10,11 @@ use Rattle.malvar.specs.Pattern.{colour_at}
 -- the weights of the samples round a pixel, in sixteenths
 pub record Weights : Type 0 where
   pub centre : ℤ
-  pub beside : ℤ  -- left and right
-  pub upright : ℤ  -- up and down
+  pub horizontal : ℤ  -- left and right
+  pub vertical : ℤ  -- up and down
   pub diagonal : ℤ  -- the four diagonal ones
-  pub beside_2 : ℤ  -- left and right by 2
-  pub upright_2 : ℤ  -- up and down by 2
+  pub horizontal_2 : ℤ  -- left and right by 2
+  pub vertical_2 : ℤ  -- up and down by 2
 
 -- the weights by what is wanted, and where
 pub record Table : Type 0 where
@@ -23,22 +23,85 @@ pub record Table : Type 0 where
   pub in_column : Weights  -- red or blue at green, that colour up and down
   pub opposite : Weights  -- red at blue, blue at red
 
+-- the negative weights: negsuc n is -(n + 1)
+abbrev pub minus_2 : ℤ
+minus_2 = negsuc 1
+
+abbrev pub minus_3 : ℤ
+minus_3 = negsuc 2
+
 -- the filters of figure 2, whose eighths are sixteenths here
 abbrev pub malvar : Table
 malvar = record {
-  green = record { centre = pos 8; beside = pos 4; upright = pos 4; diagonal = pos 0; beside_2 = negsuc 1; upright_2 = negsuc 1 };
-  in_row = record { centre = pos 10; beside = pos 8; upright = pos 0; diagonal = negsuc 1; beside_2 = negsuc 1; upright_2 = pos 1 };
-  in_column = record { centre = pos 10; beside = pos 0; upright = pos 8; diagonal = negsuc 1; beside_2 = pos 1; upright_2 = negsuc 1 };
-  opposite = record { centre = pos 12; beside = pos 0; upright = pos 0; diagonal = pos 4; beside_2 = negsuc 2; upright_2 = negsuc 2 };
+  green = record {
+    centre = pos 8;
+    horizontal = pos 4;
+    vertical = pos 4;
+    diagonal = pos 0;
+    horizontal_2 = minus_2;
+    vertical_2 = minus_2;
+  };
+  in_row = record {
+    centre = pos 10;
+    horizontal = pos 8;
+    vertical = pos 0;
+    diagonal = minus_2;
+    horizontal_2 = minus_2;
+    vertical_2 = pos 1;
+  };
+  in_column = record {
+    centre = pos 10;
+    horizontal = pos 0;
+    vertical = pos 8;
+    diagonal = minus_2;
+    horizontal_2 = pos 1;
+    vertical_2 = minus_2;
+  };
+  opposite = record {
+    centre = pos 12;
+    horizontal = pos 0;
+    vertical = pos 0;
+    diagonal = pos 4;
+    horizontal_2 = minus_3;
+    vertical_2 = minus_3;
+  };
 }
 
 -- the means of the nearest samples of the wanted colour
 abbrev pub bilinear : Table
 bilinear = record {
-  green = record { centre = pos 0; beside = pos 4; upright = pos 4; diagonal = pos 0; beside_2 = pos 0; upright_2 = pos 0 };
-  in_row = record { centre = pos 0; beside = pos 8; upright = pos 0; diagonal = pos 0; beside_2 = pos 0; upright_2 = pos 0 };
-  in_column = record { centre = pos 0; beside = pos 0; upright = pos 8; diagonal = pos 0; beside_2 = pos 0; upright_2 = pos 0 };
-  opposite = record { centre = pos 0; beside = pos 0; upright = pos 0; diagonal = pos 4; beside_2 = pos 0; upright_2 = pos 0 };
+  green = record {
+    centre = pos 0;
+    horizontal = pos 4;
+    vertical = pos 4;
+    diagonal = pos 0;
+    horizontal_2 = pos 0;
+    vertical_2 = pos 0;
+  };
+  in_row = record {
+    centre = pos 0;
+    horizontal = pos 8;
+    vertical = pos 0;
+    diagonal = pos 0;
+    horizontal_2 = pos 0;
+    vertical_2 = pos 0;
+  };
+  in_column = record {
+    centre = pos 0;
+    horizontal = pos 0;
+    vertical = pos 8;
+    diagonal = pos 0;
+    horizontal_2 = pos 0;
+    vertical_2 = pos 0;
+  };
+  opposite = record {
+    centre = pos 0;
+    horizontal = pos 0;
+    vertical = pos 0;
+    diagonal = pos 4;
+    horizontal_2 = pos 0;
+    vertical_2 = pos 0;
+  };
 }
 
 -- the table of a kind
@@ -59,7 +122,7 @@ weights_at table cfa r c wanted =
     then (if nat_eq (colour_at cfa r (c + 1)) wanted then table.in_row else table.in_column)
     else table.opposite
 
--- steps from a pixel to one near it
+-- steps from a pixel to one near it, down and to the right: negsuc n is -(n + 1)
 abbrev pub here : ℤ
 here = pos 0
 
@@ -87,8 +150,8 @@ right_1 = pos 1
 abbrev pub right_2 : ℤ
 right_2 = pos 2
 
--- the sample so many steps down and to the right of row r, column c of a plane of these rows and columns, whose sample at a
--- place is at r c p: reflected at the plane's edges
+-- the sample so many steps down and to the right of row r, column c of a plane of these rows and columns, whose sample
+-- at a place is at r c p: reflected at the plane's edges
 abbrev pub near : (rows cols : ℕ) → (ℕ → ℕ → ℕ → ℕ) → ℕ → ℕ → ℤ → ℤ → ℤ
 near rows cols at r c down right = pos (at (reflected rows (pos r +ℤ down)) (reflected cols (pos c +ℤ right)) 0)
 
@@ -97,11 +160,11 @@ abbrev pub weighted_sum : (rows cols : ℕ) → (ℕ → ℕ → ℕ → ℕ) �
 weighted_sum rows cols at r c w =
     let step : ℤ → ℤ → ℤ = near rows cols at r c in
     w.centre *ℤ step here here
-    +ℤ w.beside *ℤ (step here left_1 +ℤ step here right_1)
-    +ℤ w.upright *ℤ (step up_1 here +ℤ step down_1 here)
+    +ℤ w.horizontal *ℤ (step here left_1 +ℤ step here right_1)
+    +ℤ w.vertical *ℤ (step up_1 here +ℤ step down_1 here)
     +ℤ w.diagonal *ℤ (step up_1 left_1 +ℤ step up_1 right_1 +ℤ (step down_1 left_1 +ℤ step down_1 right_1))
-    +ℤ w.beside_2 *ℤ (step here left_2 +ℤ step here right_2)
-    +ℤ w.upright_2 *ℤ (step up_2 here +ℤ step down_2 here)
+    +ℤ w.horizontal_2 *ℤ (step here left_2 +ℤ step here right_2)
+    +ℤ w.vertical_2 *ℤ (step up_2 here +ℤ step down_2 here)
 
 -- sixteenths as a whole number, rounded down, and held within 0 and 65535
 abbrev pub clipped : ℤ → ℕ

@@ -3,7 +3,8 @@ use Rattle.std.specs.Prelude.{◌≡◌, ℕ, ◌≤◌, List, [], ◌∷◌}
 use Rattle.plane_view.specs.declared.Shape.{Shape}
 use Rattle.malvar.specs.declared.Kind.{Kind}
 use Rattle.malvar.specs.declared.pattern.Pattern.{Pattern}
-use Rattle.malvar.specs.declared.pattern.Pattern.TheVariants.{RedGreenGreenBlue, BlueGreenGreenRed, GreenRedBlueGreen, GreenBlueRedGreen}
+use Rattle.malvar.specs.declared.pattern.Pattern.TheVariants.{RedGreenGreenBlue, BlueGreenGreenRed, GreenRedBlueGreen}
+use Rattle.malvar.specs.declared.pattern.Pattern.TheVariants.{GreenBlueRedGreen}
 use Rattle.malvar.specs.declared.stage.Demosaic.{Demosaic}
 
 -- planes of one colour a pixel that are large enough to be reflected

@@ -1,5 +1,5 @@
-//! The filters of each kind, on sums of samples round one pixel: those of Malvar, He and Cutler (2004, figure 2), and means
-//! of the nearest samples.
+//! The filters of each kind, on sums of samples round one pixel: those of Malvar, He and Cutler (2004, figure 2), and
+//! means of the nearest samples.
 
 ghost use Rattle.std.specs.Prelude.{◌≡◌, ◌<◌, ◌^◌, pos, ◌-ℤ◌};
 ghost use Rattle.malvar.specs.Demosaic.{rounded, table_of};
@@ -11,15 +11,15 @@ use crate::Kind;
 pub(crate) struct Around {
     pub(crate) centre: u32,
     /// Left and right.
-    pub(crate) beside: u32,
+    pub(crate) horizontal: u32,
     /// Up and down.
-    pub(crate) upright: u32,
+    pub(crate) vertical: u32,
     /// The four diagonal ones.
     pub(crate) diagonal: u32,
     /// Left and right, as far away as the filters reach.
-    pub(crate) beside_far: u32,
+    pub(crate) horizontal_far: u32,
     /// Up and down, as far away as the filters reach.
-    pub(crate) upright_far: u32,
+    pub(crate) vertical_far: u32,
 }
 
 /// What a pixel's own colour is, and which colour stands left and right of it.
@@ -50,7 +50,7 @@ fn scaled(plus: u32, minus: u32) -> u16
 }
 
 impl Around {
-    ghost use Rattle.malvar.specs.Around.{IsAround, weighted};
+    ghost use Rattle.malvar.specs.inner.Around.{IsAround, weighted};
 
     /// Green at red or blue.
     #[inline(always)]
@@ -60,10 +60,10 @@ impl Around {
     {
         match kind {
             Kind::Malvar => scaled(
-                8 * self.centre + 4 * (self.beside + self.upright),
-                2 * (self.beside_far + self.upright_far),
+                8 * self.centre + 4 * (self.horizontal + self.vertical),
+                2 * (self.horizontal_far + self.vertical_far),
             ),
-            Kind::Bilinear => scaled(4 * (self.beside + self.upright), 0),
+            Kind::Bilinear => scaled(4 * (self.horizontal + self.vertical), 0),
         }
     }
 
@@ -75,10 +75,10 @@ impl Around {
     {
         match kind {
             Kind::Malvar => scaled(
-                10 * self.centre + 8 * self.beside + self.upright_far,
-                2 * (self.diagonal + self.beside_far),
+                10 * self.centre + 8 * self.horizontal + self.vertical_far,
+                2 * (self.diagonal + self.horizontal_far),
             ),
-            Kind::Bilinear => scaled(8 * self.beside, 0),
+            Kind::Bilinear => scaled(8 * self.horizontal, 0),
         }
     }
 
@@ -90,10 +90,10 @@ impl Around {
     {
         match kind {
             Kind::Malvar => scaled(
-                10 * self.centre + 8 * self.upright + self.beside_far,
-                2 * (self.diagonal + self.upright_far),
+                10 * self.centre + 8 * self.vertical + self.horizontal_far,
+                2 * (self.diagonal + self.vertical_far),
             ),
-            Kind::Bilinear => scaled(8 * self.upright, 0),
+            Kind::Bilinear => scaled(8 * self.vertical, 0),
         }
     }
 
@@ -106,7 +106,7 @@ impl Around {
         match kind {
             Kind::Malvar => scaled(
                 12 * self.centre + 4 * self.diagonal,
-                3 * (self.beside_far + self.upright_far),
+                3 * (self.horizontal_far + self.vertical_far),
             ),
             Kind::Bilinear => scaled(4 * self.diagonal, 0),
         }
@@ -114,7 +114,7 @@ impl Around {
 }
 
 impl Site {
-    ghost use Rattle.malvar.specs.Around.{IsAround, IsPixel, sample_by, own_colour, next_colour};
+    ghost use Rattle.malvar.specs.inner.Around.{IsAround, IsPixel, sample_by, own_colour, next_colour};
 
     /// Red, green and blue of a pixel.
     #[inline(always)]
@@ -133,7 +133,7 @@ impl Site {
 }
 
 impl RowSites {
-    ghost use Rattle.malvar.specs.Around.{even_site, odd_site, site_at};
+    ghost use Rattle.malvar.specs.inner.Around.{even_site, odd_site, site_at};
 
     /// The site of column `c`.
     pub(crate) fn site(self, c: usize) -> Site

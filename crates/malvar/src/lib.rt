@@ -1,5 +1,5 @@
-//! Demosaicing: after Malvar, He and Cutler, "High-quality linear interpolation for demosaicing of Bayer-patterned color
-//! images" (2004), and by means of the nearest samples.
+//! Demosaicing: after Malvar, He and Cutler, "High-quality linear interpolation for demosaicing of Bayer-patterned
+//! color images" (2004), and by means of the nearest samples.
 #![tactic(auto)]
 
 mod filters;

@@ -1,7 +1,7 @@
 //! The colour filter array of 2 by 2 (DNG 1.6, CFAPattern).
 
 ghost use Rattle.std.specs.Prelude.{◌≡◌};
-ghost use Rattle.malvar.specs.Around.{even_site, odd_site, own_colour, next_colour};
+ghost use Rattle.malvar.specs.inner.Around.{even_site, odd_site, own_colour, next_colour};
 ghost use Rattle.malvar.specs.Pattern.{colour_at, IsBayer};
 
 use crate::filters::RowSites;

@@ -19,7 +19,8 @@ pub fn whole(plane: &[u16], rows: u32, cols: u32, cfa: [u8; 4], out: &mut [u16])
     requires plane { length plane.now ≡ rows * cols }
     requires out { length out.old ≡ rows * cols * 3 }
     requires pattern { IsBayer cfa }
-    ensures { out.new ≡ (demosaiced malvar cfa (record { rows = rows; cols = cols; planes = 1; samples = plane.now })).samples }
+    ensures { out.new ≡ (demosaiced malvar cfa
+        (record { rows = rows; cols = cols; planes = 1; samples = plane.now })).samples }
 {
     let shape = Shape {
         rows,

@@ -3,8 +3,9 @@
 ghost use Rattle.std.specs.Prelude.{◌≡◌, ◌+◌, ◌-◌, ◌*◌, ◌%◌, ◌<◌, ◌≤◌, slice_index, length, pos, negsuc, ◌≤ℤ◌};
 ghost use Rattle.plane_view.specs.Reflect.{reflected};
 ghost use Rattle.malvar.specs.Demosaic.{reach_of};
-ghost use Rattle.malvar.specs.Around.{IsAround, even_site, odd_site};
-ghost use Rattle.malvar.specs.Rows.{IsWindow, Spans, count_of, around_by, around_at, with_pixel, HasColumns, SameBelow};
+ghost use Rattle.malvar.specs.inner.Around.{IsAround, even_site, odd_site};
+ghost use Rattle.malvar.specs.inner.Rows.{IsWindow, Spans, count_of, around_by, around_at, with_pixel};
+ghost use Rattle.malvar.specs.inner.Rows.{HasColumns, SameBelow};
 
 use crate::Kind;
 use crate::filters::{Around, RowSites, Site};
@@ -57,11 +58,11 @@ impl Window<'_> {
     {
         Around {
             centre: u32::from(self.here[c]),
-            beside: sum_of(self.here, left, right),
-            upright: u32::from(self.up[c]) + u32::from(self.down[c]),
+            horizontal: sum_of(self.here, left, right),
+            vertical: u32::from(self.up[c]) + u32::from(self.down[c]),
             diagonal: sum_of(self.up, left, right) + sum_of(self.down, left, right),
-            beside_far: sum_of(self.here, far_left, far_right),
-            upright_far: u32::from(self.far_up[c]) + u32::from(self.far_down[c]),
+            horizontal_far: sum_of(self.here, far_left, far_right),
+            vertical_far: u32::from(self.far_up[c]) + u32::from(self.far_down[c]),
         }
     }
 
@@ -224,7 +225,8 @@ fn fill_sites(
     requires high { from + pairs * 2 + reach_of kind ≤ window.now.cols }
     requires first { first ≤ from }
     requires out { (from + pairs * 2 - first) * 3 ≤ length out.old }
-    ensures pixels { HasColumns kind (even_site sites) (odd_site sites) window.now first out.new from (from + pairs * 2) }
+    ensures pixels { HasColumns kind (even_site sites) (odd_site sites) window.now first out.new from
+        (from + pairs * 2) }
     ensures before { SameBelow out.old out.new (from - first) }
 {
     match sites {

@@ -13,8 +13,8 @@ use plane_view::{Rect, Shape, TileMut, View};
 use stage_core::{Stage, Steps};
 use std::sync::ledger::Ledger;
 
-/// Fills in the colours of a plane that has one colour a pixel, under a pattern of 2 by 2. It makes three planes, red, green
-/// and blue, and refuses all but one plane of at least 4 rows and columns.
+/// Fills in the colours of a plane that has one colour a pixel, under a pattern of 2 by 2. It makes three planes, red,
+/// green and blue, and refuses all but one plane of at least 4 rows and columns.
 #[derive(Clone, Copy, Debug, PartialEq, Eq)]
 pub struct Demosaic {
     kind: Kind,
@@ -79,11 +79,15 @@ impl Stage for Demosaic {
 
     ghost makes_shapes = { λ s input shape takes. coloured_is_shape input shape };
 
-    ghost makes_planes = { λ s input P shape takes is. planes_by coloured (λ t at. demosaiced_at (table_of s.kind) (cfa_of s) t.rows t.cols at) input P is };
+    ghost makes_planes = { λ s input P shape takes is. planes_by coloured
+        (λ t at. demosaiced_at (table_of s.kind) (cfa_of s) t.rows t.cols at) input P is };
 
     ghost needs_part = { λ s input rect shape takes part. needed_is_part (reach_of s.kind) input rect part };
 
-    ghost local = { λ s input rect shape takes part. local_by coloured (λ t at. demosaiced_at (table_of s.kind) (cfa_of s) t.rows t.cols at) input (grown rect (reach_of s.kind) (whole_rect input.rows input.cols)) rect part (reads_near s.kind (cfa_of s) input rect takes part) };
+    ghost local = { λ s input rect shape takes part. local_by coloured
+        (λ t at. demosaiced_at (table_of s.kind) (cfa_of s) t.rows t.cols at) input
+        (grown rect (reach_of s.kind) (whole_rect input.rows input.cols)) rect part
+        (reads_near s.kind (cfa_of s) input rect takes part) };
 
     ghost equal_alike = { same_mosaics };
 }

@@ -21,7 +21,8 @@ fn pattern(i: u32) -> [u8; 4]
     }
 }
 
-/// Runs a stage over a rectangle, from no more of the plane than it needs. False: the shape is refused, or a size is wrong.
+/// Runs a stage over a rectangle, from no more of the plane than it needs. False: the shape is refused, or a size
+/// is wrong.
 fn develop<L: Ledger>(
     stage: &Demosaic,
     plane: &[u16],

@@ -9,7 +9,7 @@ ghost use Rattle.plane_view.specs.Shapes.{IsShape};
 ghost use Rattle.stage_core.specs.Planes.{IsPart};
 ghost use Rattle.malvar.specs.Demosaic.{demosaiced_at, table_of, reach_of};
 ghost use Rattle.malvar.specs.Mosaics.{IsMosaic, coloured, colours_of};
-ghost use Rattle.malvar.specs.Rows.{IsWindow, IsWindowOf, count_of};
+ghost use Rattle.malvar.specs.inner.Rows.{IsWindow, IsWindowOf, count_of};
 
 use crate::Kind;
 use crate::pattern::Pattern;
@@ -77,7 +77,8 @@ pub(crate) fn fill_row(
     requires need { LiesIn (grown rect (reach_of kind) (whole_rect whole.rows whole.cols)) input.now.rect }
     requires row { HasRow rect r }
     requires out { length out.old ≡ width rect * 3 }
-    ensures { IsRowOf (demosaiced_at (table_of kind) (colours_of pattern) whole.rows whole.cols (sample_at input.now)) rect 3 r out.new }
+    ensures { IsRowOf (demosaiced_at (table_of kind) (colours_of pattern) whole.rows whole.cols (sample_at input.now))
+        rect 3 r out.new }
 {
     let part = rect.grow(kind.reach(), &whole.rect());
     let window = window_of(input, whole, kind, r, part);

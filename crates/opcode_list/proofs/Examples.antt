@@ -4,7 +4,8 @@ use Rattle.opcode_list.specs.Cuts.{cut_opcodes, first_opcode, long_at, short_at}
 use Rattle.opcode_list.specs.Lists.{barred_by, opcode_of, opcodes_from, opcodes_of}
 use Rattle.opcode_list.specs.Params.{map_of, opcode_with, rect_at, table_at, trim_of}
 use Rattle.opcode_list.specs.declared.opcode.Opcode.TheVariants.{Map, Skipped, Trim}
-use Rattle.opcode_list.specs.declared.opcode.OpcodeFault.TheVariants.{BadParams, Newer, NotHere, TooMany, Truncated, Unknown}
+use Rattle.opcode_list.specs.declared.opcode.OpcodeFault.TheVariants.{BadParams, Newer, NotHere, TooMany, Truncated}
+use Rattle.opcode_list.specs.declared.opcode.OpcodeFault.TheVariants.{Unknown}
 
 -- a list of one opcode of the version 1.minor, with the flags 0 or 1 and at most 255 bytes of parameters
 abbrev one : ℕ → ℕ → ℕ → ℕ → List ℕ → List ℕ

@@ -106,7 +106,8 @@ begins list count bytes = record {
 
 -- an opcode was read
 pub goes_on :
-    {list count : ℕ} {bytes : List ℕ} {index : ℕ} {rest : List ℕ} {opcodes : List Opcode} {raw : RawOpcode} {opcode : Opcode} →
+    {list count : ℕ} {bytes : List ℕ} {index : ℕ} {rest : List ℕ} {opcodes : List Opcode} {raw : RawOpcode}
+    {opcode : Opcode} →
     HasRead list count bytes index rest opcodes → index < count → first_opcode rest ≡ Some raw →
     opcode_of list index raw ≡ Ok opcode → CanRunIn list opcode →
     HasRead list count bytes (index + 1) (drop (16 + length raw.params) rest) (opcodes ++ opcode ∷ [])
@@ -118,7 +119,8 @@ goes_on {list} {count} {bytes} {index} {rest} {opcodes} {raw} {opcode} had below
 
 -- an opcode was refused
 pub stops :
-    {list count : ℕ} {bytes : List ℕ} {index : ℕ} {rest : List ℕ} {opcodes : List Opcode} {raw : RawOpcode} {fault : OpcodeFault} →
+    {list count : ℕ} {bytes : List ℕ} {index : ℕ} {rest : List ℕ} {opcodes : List Opcode} {raw : RawOpcode}
+    {fault : OpcodeFault} →
     HasRead list count bytes index rest opcodes → index < count → first_opcode rest ≡ Some raw →
     opcode_of list index raw ≡ Err fault → opcodes_from list 0 (cut_opcodes count bytes) ≡ Err fault
 stops {list} {count} {bytes} {index} {rest} {opcodes} {raw} {fault} had below cut read =

@@ -1,7 +1,9 @@
--- What a refusal line says of an opcode list: the fault's name, and its numbers in decimal, each after a space.
+-- What a refusal line says of an opcode list, which is this project's own: the fault's name, and its numbers in
+-- decimal, each after a space.
 use Rattle.std.specs.Prelude.{ℕ, List, ◌++◌, codes, decimal}
 use Rattle.opcode_list.specs.declared.opcode.OpcodeFault.{OpcodeFault}
-use Rattle.opcode_list.specs.declared.opcode.OpcodeFault.TheVariants.{BadParams, Memory, Newer, NotHere, TooMany, Truncated, Unknown}
+use Rattle.opcode_list.specs.declared.opcode.OpcodeFault.TheVariants.{BadParams, Memory, Newer, NotHere, TooMany}
+use Rattle.opcode_list.specs.declared.opcode.OpcodeFault.TheVariants.{Truncated, Unknown}
 
 abbrev pub fault_text : OpcodeFault → List ℕ
 fault_text TooMany = codes "TooMany"

@@ -2,5 +2,5 @@ pub mod Cuts
 pub mod Faults
 pub mod Lists
 pub mod Params
-pub mod Seen
 pub mod Trims
+pub mod inner

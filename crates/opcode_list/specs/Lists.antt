@@ -1,10 +1,12 @@
 -- An opcode list, or its first refusal (DNG 1.6, "Opcode List Processing"). Which opcodes are run, and the limits, are
 -- this project's own.
-use Rattle.std.specs.Prelude.{◌≡◌, ⊤, ℕ, ◌+◌, ◌==◌, ◌&&◌, ◌||◌, Bool, nat_le, nat_lt, if◌then◌else◌, List, [], ◌∷◌, Option, None, Some, Result, Ok, Err, bit_and, drop, length, not}
+use Rattle.std.specs.Prelude.{◌≡◌, ⊤, ℕ, ◌+◌, ◌==◌, ◌&&◌, ◌||◌, Bool, nat_le, nat_lt, if◌then◌else◌, List, [], ◌∷◌}
+use Rattle.std.specs.Prelude.{Option, None, Some, Result, Ok, Err, bit_and, drop, length, not}
 use Rattle.opcode_list.specs.declared.opcode.Opcode.{Opcode}
 use Rattle.opcode_list.specs.declared.opcode.Opcode.TheVariants.{Skipped}
 use Rattle.opcode_list.specs.declared.opcode.OpcodeFault.{OpcodeFault}
-use Rattle.opcode_list.specs.declared.opcode.OpcodeFault.TheVariants.{BadParams, Memory, Newer, NotHere, TooMany, Truncated, Unknown}
+use Rattle.opcode_list.specs.declared.opcode.OpcodeFault.TheVariants.{BadParams, Memory, Newer, NotHere, TooMany}
+use Rattle.opcode_list.specs.declared.opcode.OpcodeFault.TheVariants.{Truncated, Unknown}
 use Rattle.opcode_list.specs.Cuts.{RawOpcode, cut_opcodes, long_at}
 use Rattle.opcode_list.specs.Params.{opcode_with}
 
@@ -76,7 +78,7 @@ opcodes_of list bytes =
     else (if nat_lt 16 (long_at bytes 0) then Err TooMany
     else opcodes_from list 0 (cut_opcodes (long_at bytes 0) (drop 4 bytes)))
 
--- what a call that takes memory answers: its definition's answer, or that memory ran out
+-- what a call that takes memory answers: its definition's answer, or that it is out of memory
 abbrev pub Answers : {A : Type 0} → Result A OpcodeFault → Result A OpcodeFault → Type 0
 Answers (Ok value) want = want ≡ Ok value
 Answers (Err Memory) want = ⊤

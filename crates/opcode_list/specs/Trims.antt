@@ -1,6 +1,7 @@
 -- What the trims of an opcode list leave of a plane (DNG 1.6, "Opcode List Processing", TrimBounds). That a trim which
 -- passes the plane that it finds is refused is this project's own.
-use Rattle.std.specs.Prelude.{ℕ, ◌+◌, ◌≤◌, ◌&&◌, Bool, nat_le, true, if◌then◌else◌, List, [], ◌∷◌, Option, None, Some, Result, Ok, Err}
+use Rattle.std.specs.Prelude.{ℕ, ◌+◌, ◌≤◌, ◌&&◌, Bool, nat_le, true, if◌then◌else◌, List, [], ◌∷◌, Option, None, Some}
+use Rattle.std.specs.Prelude.{Result, Ok, Err}
 use Rattle.plane_view.specs.Rectangles.{height, width}
 use Rattle.plane_view.specs.declared.Shape.{Shape}
 use Rattle.opcode_list.specs.declared.opcode.Opcode.{Opcode}

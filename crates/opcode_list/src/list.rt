@@ -5,7 +5,7 @@ ghost use Rattle.std.specs.Option.{option_map};
 ghost use Rattle.opcode_list.specs.Cuts.{cut_opcodes, first_opcode};
 ghost use Rattle.opcode_list.specs.Lists.{Answers, barred_by, is_optional, opcode_of, opcodes_from, opcodes_of};
 ghost use Rattle.opcode_list.specs.Params.{CanRunIn};
-ghost use Rattle.opcode_list.specs.Seen.{raw_seen};
+ghost use Rattle.opcode_list.specs.inner.Seen.{raw_seen};
 
 use crate::opcode::{Opcode, OpcodeFault};
 use crate::params::{FIX_BAD_PIXELS_CONSTANT, FIX_BAD_PIXELS_LIST, MAP_TABLE, long, opcode_with};

@@ -67,7 +67,7 @@ pub enum OpcodeFault {
     NotHere { index: u32, id: u32 },
     /// It can't be run with these parameters.
     BadParams { index: u32, id: u32 },
-    /// Memory ran out.
+    /// Out of memory.
     Memory,
 }
 

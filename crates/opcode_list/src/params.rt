@@ -2,7 +2,8 @@
 
 ghost use Rattle.std.specs.Prelude.{◌≡◌, ◌+◌, ◌*◌, ◌≤◌, length, IfOk, IfSome};
 ghost use Rattle.opcode_list.specs.Cuts.{long_at, short_at};
-ghost use Rattle.opcode_list.specs.Params.{CanRun, CanRunIn, MayStandIn, constant_of, fix_list_of, list_of, map_of, opcode_with, points_at, rect_at, rects_at, table_at, trim_of};
+ghost use Rattle.opcode_list.specs.Params.{CanRun, CanRunIn, MayStandIn, constant_of, fix_list_of, list_of, map_of};
+ghost use Rattle.opcode_list.specs.Params.{opcode_with, points_at, rect_at, rects_at, table_at, trim_of};
 
 use crate::opcode::Opcode;
 use byteorder::{BigEndian, ByteOrder};

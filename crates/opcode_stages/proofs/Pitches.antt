@@ -2,7 +2,7 @@
 use Rattle.std.proofs.Common.{◌≡◌, ℕ, ◌+◌, ◌-◌, ◌*◌, ◌/◌, ◌%◌, ◌<◌, ◌≤◌, ◌∙◌, ap, arith}
 use Rattle.std.proofs.lemmas.Nat.{div-add-mod', mod-mul-add, mod_below}
 use Rattle.std.proofs.Math.Nat.{zero-mod, mul-add-mod_self_right}
-use Rattle.opcode_stages.specs.MapRows.{IsFirstFrom}
+use Rattle.opcode_stages.specs.inner.MapRows.{IsFirstFrom}
 
 -- short of the next multiple
 pub short_mod : (a j m : ℕ) → a % m + j < m → (a + j) % m ≡ a % m + j
@@ -44,7 +44,8 @@ first_low start pitch low above step = record {
 }
 
 -- the next one after the bound
-pub first_past : (start pitch low past : ℕ) → start ≤ low → 0 < pitch → past ≡ (low - start) % pitch → 0 < past → IsFirstFrom start pitch low (low + (pitch - past))
+pub first_past : (start pitch low past : ℕ) → start ≤ low → 0 < pitch → past ≡ (low - start) % pitch → 0 < past
+    → IsFirstFrom start pitch low (low + (pitch - past))
 first_past start pitch low past above some is_past not_at =
     let below : (low - start) % pitch < pitch = mod_below (low - start) pitch some in
     record {
@@ -54,7 +55,8 @@ first_past start pitch low past above some is_past not_at =
           ap (λ n. n % pitch) same ∙ next_mod (low - start) (pitch - past) pitch some (omega (arith, below, is_past)));
       least = λ k from at under step.
           let same : k - start ≡ (low - start) + (k - low) = omega arith in
-          let rest : (k - start) % pitch ≡ (low - start) % pitch + (k - low) = ap (λ n. n % pitch) same ∙ short_mod (low - start) (k - low) pitch (omega (arith, below, is_past)) in
+          let rest : (k - start) % pitch ≡ (low - start) % pitch + (k - low) = ap (λ n. n % pitch) same
+          ∙ short_mod (low - start) (k - low) pitch (omega (arith, below, is_past)) in
           absurd (omega (arith, rest, step, is_past));
     }
 

@@ -2,7 +2,6 @@
 use Rattle.std.specs.Prelude.{ℕ, Bool, nat_eq, ◌&&◌, List}
 use Rattle.std.specs.Cmp.Lexicographic.{pointwise}
 use Rattle.plane_view.specs.declared.Rect.{Rect}
-use Rattle.opcode_stages.specs.Equality.{same_edges}
 
 -- the phase, the points and the rectangles
 pub record BadPixels : Type 0 where
@@ -13,6 +12,11 @@ pub record BadPixels : Type 0 where
 -- whether two points have the same row and the same column
 abbrev pub same_point : ℕ × ℕ → ℕ × ℕ → Bool
 same_point p q = nat_eq p.0 q.0 && nat_eq p.1 q.1
+
+-- whether two rectangles have the same edges
+abbrev pub same_edges : Rect → Rect → Bool
+same_edges s t =
+    nat_eq s.top t.top && (nat_eq s.left t.left && (nat_eq s.bottom t.bottom && nat_eq s.right t.right))
 
 -- whether two lists of bad pixels are the same
 unfoldable pub same_pixels : BadPixels → BadPixels → Bool

@@ -1,14 +1,11 @@
 pub mod Crops
 pub mod CropLaws
 pub mod Maps
-pub mod MapRows
 pub mod Equality
 pub mod MapLaws
 pub mod Mends
-pub mod MendRows
 pub mod MendLaws
-pub mod Places
-pub mod Indexes
 pub mod MendStages
 pub mod BadPixels
 pub mod MendEquality
+pub mod inner

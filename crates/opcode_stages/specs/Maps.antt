@@ -1,6 +1,7 @@
 -- Samples that are mapped through a table (DNG 1.6, MapTable). That a value past the table takes its last entry is this
 -- project's own.
-use Rattle.std.specs.Prelude.{ℕ, ◌≤◌, ◌+◌, ◌-◌, ◌%◌, ◌==◌, ◌&&◌, Bool, nat_le, nat_lt, min, if◌then◌else◌, List, length, slice_index}
+use Rattle.std.specs.Prelude.{ℕ, ◌≤◌, ◌+◌, ◌-◌, ◌%◌, ◌==◌, ◌&&◌, Bool, nat_le, nat_lt, min, if◌then◌else◌, List, length}
+use Rattle.std.specs.Prelude.{slice_index}
 use Rattle.plane_view.specs.declared.Rect.{Rect}
 use Rattle.plane_view.specs.Plane.{Plane, sample, plane_of}
 use Rattle.plane_view.specs.Rectangles.{has_pixel}

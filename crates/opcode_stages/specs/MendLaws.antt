@@ -1,5 +1,6 @@
--- Laws of mending as a stage.
-use Rattle.std.proofs.Common.{◌≡◌, ℕ, ◌+◌, ◌<◌, ◌≤◌, ◌==◌, ◌&&◌, not, Bool, true, false, ⊎_elim, if◌then◌else◌, List, [], ◌∷◌, refl, sym, ◌∙◌, ap, arith}
+-- Laws of mending as a stage: this project's own.
+use Rattle.std.proofs.Common.{◌≡◌, ℕ, ◌+◌, ◌<◌, ◌≤◌, ◌==◌, ◌&&◌, not, Bool, true, false, ⊎_elim, if◌then◌else◌, List}
+use Rattle.std.proofs.Common.{[], ◌∷◌, refl, sym, ◌∙◌, ap, arith}
 use Rattle.std.specs.List.{All, sum_by}
 use Rattle.std.proofs.lemmas.List.Sums.{sum_by-cons}
 use Rattle.std.proofs.lemmas.List.Elements.{All-head, All-tail, All-from_recursion, All-weaker}
@@ -11,10 +12,12 @@ use Rattle.plane_view.specs.Rectangles.{HasPixel, grown, whole_rect}
 use Rattle.stage_core.specs.Planes.{IsPart}
 use Rattle.stage_core.specs.Stages.{RestsOn}
 use Rattle.opcode_stages.specs.declared.steps.Step.{Step}
-use Rattle.opcode_stages.specs.Mends.{steps_of, is_green, row_after, col_after, stays, is_good, good_sum, good_count, mean_or, mended_at, equals, is_listed}
-use Rattle.opcode_stages.specs.MendRows.{IsShort, IsSingle}
+use Rattle.opcode_stages.specs.Mends.{IsSingle, steps_of, is_green, row_after, col_after, stays, is_good, good_sum}
+use Rattle.opcode_stages.specs.Mends.{good_count, mean_or, mended_at, equals, is_listed}
+use Rattle.opcode_stages.specs.inner.MendRows.{IsShort}
 
-pub mend_needs : (input : Shape) (rect : Rect) → IsPart rect input → IsPart (grown rect 2 (whole_rect input.rows input.cols)) input
+pub mend_needs : (input : Shape) (rect : Rect) → IsPart rect input
+    → IsPart (grown rect 2 (whole_rect input.rows input.cols)) input
 mend_needs input rect part =
     record {
       some = record { rows = omega arith; cols = omega arith };
@@ -75,33 +78,47 @@ pub record Stays (rows cols r c : ℕ) (step : Step) : Type 0 where
 
 pub stays_so : (rows cols r c : ℕ) (step : Step) → stays rows cols r c step ≡ true → Stays rows cols r c step
 stays_so rows cols r c step e =
-    record { up = grind (arith, nat_tests); down = grind (arith, nat_tests); left = grind (arith, nat_tests); right = grind (arith, nat_tests) }
+    record {
+      up = grind (arith, nat_tests);
+      down = grind (arith, nat_tests);
+      left = grind (arith, nat_tests);
+      right = grind (arith, nat_tests);
+    }
 
 -- a short step that stays in the plane ends in what a rectangle needs
-step_in : (rows cols r c : ℕ) (step : Step) (rect : Rect) → IsShort step → Stays rows cols r c step → HasPixel rect r c → HasPixel (grown rect 2 (whole_rect rows cols)) (row_after r step) (col_after c step)
+step_in : (rows cols r c : ℕ) (step : Step) (rect : Rect) → IsShort step → Stays rows cols r c step → HasPixel rect r c
+    → HasPixel (grown rect 2 (whole_rect rows cols)) (row_after r step) (col_after c step)
 step_in rows cols r c step rect short in_plane pixel =
     record { top = omega arith; bottom = omega arith; left = omega arith; right = omega arith }
 
 -- the same neighbours are good, and have the same samples
-same_good : (bad : (ℕ → ℕ → ℕ → ℕ) → ℕ → ℕ → Bool) → BadRests bad → (rows cols : ℕ) (f g : ℕ → ℕ → ℕ → ℕ) (r c : ℕ) (rect : Rect) → HasPixel rect r c
-    → ((i j : ℕ) → HasPixel (grown rect 2 (whole_rect rows cols)) i j → f i j 0 ≡ g i j 0) → (value : Bool → ℕ → ℕ) → ((x : ℕ) → value false x ≡ 0) → (step : Step) → IsShort step
-    → value (is_good (bad f) rows cols r c step) (f (row_after r step) (col_after c step) 0) ≡ value (is_good (bad g) rows cols r c step) (g (row_after r step) (col_after c step) 0)
+same_good : (bad : (ℕ → ℕ → ℕ → ℕ) → ℕ → ℕ → Bool) → BadRests bad
+    → (rows cols : ℕ) (f g : ℕ → ℕ → ℕ → ℕ) (r c : ℕ) (rect : Rect) → HasPixel rect r c
+    → ((i j : ℕ) → HasPixel (grown rect 2 (whole_rect rows cols)) i j → f i j 0 ≡ g i j 0) → (value : Bool → ℕ → ℕ)
+    → ((x : ℕ) → value false x ≡ 0) → (step : Step) → IsShort step
+    → value (is_good (bad f) rows cols r c step) (f (row_after r step) (col_after c step) 0)
+    ≡ value (is_good (bad g) rows cols r c step) (g (row_after r step) (col_after c step) 0)
 same_good bad rests rows cols f g r c rect pixel agree value none step short =
     let i : ℕ = row_after r step in
     let j : ℕ = col_after c step in
     ⊎_elim
     (λ (inside : stays rows cols r c step ≡ true).
-    let same : f i j 0 ≡ g i j 0 = agree i j (step_in rows cols r c step rect short (stays_so rows cols r c step inside) pixel) in
-    ap (λ (b : Bool). value (stays rows cols r c step && not b) (f i j 0)) (rests f g i j same) ∙ ap (λ (v : ℕ). value (is_good (bad g) rows cols r c step) v) same)
+    let same : f i j 0 ≡ g i j 0 =
+    agree i j (step_in rows cols r c step rect short (stays_so rows cols r c step inside) pixel) in
+    ap (λ (b : Bool). value (stays rows cols r c step && not b) (f i j 0)) (rests f g i j same)
+    ∙ ap (λ (v : ℕ). value (is_good (bad g) rows cols r c step) v) same)
     (λ (outside : stays rows cols r c step ≡ false).
-    ap (λ (b : Bool). value (b && not (bad f i j)) (f i j 0)) outside ∙ none (f i j 0) ∙ sym (ap (λ (b : Bool). value (b && not (bad g i j)) (g i j 0)) outside ∙ none (g i j 0)))
+    ap (λ (b : Bool). value (b && not (bad f i j)) (f i j 0)) outside ∙ none (f i j 0)
+    ∙ sym (ap (λ (b : Bool). value (b && not (bad g i j)) (g i j 0)) outside ∙ none (g i j 0)))
     (cases_Bool (stays rows cols r c step))
 
 pub listed_rests : (points : List (ℕ × ℕ)) (rects : List Rect) → BadRests (is_listed points rects)
 listed_rests points rects f g r c same = refl
 
-pub mend_rests : (bad : (ℕ → ℕ → ℕ → ℕ) → ℕ → ℕ → Bool) → BadRests bad → (phase : ℕ) (input : Shape) (rect : Rect) → IsSingle input → IsPart rect input
-    → RestsOn (λ at. mended_at (bad at) phase input.rows input.cols at) input.planes (grown rect 2 (whole_rect input.rows input.cols)) input.planes rect
+pub mend_rests : (bad : (ℕ → ℕ → ℕ → ℕ) → ℕ → ℕ → Bool) → BadRests bad → (phase : ℕ) (input : Shape) (rect : Rect)
+    → IsSingle input → IsPart rect input
+    → RestsOn (λ at. mended_at (bad at) phase input.rows input.cols at) input.planes
+    (grown rect 2 (whole_rect input.rows input.cols)) input.planes rect
 mend_rests bad rests phase input rect single part = record {
   same = λ f g agree r c p pixel plane.
       let rows : ℕ = input.rows in
@@ -110,11 +127,23 @@ mend_rests bad rests phase input rect single part = record {
       let here : f r c p ≡ g r c p =
       agree r c p (record { top = omega arith; bottom = omega arith; left = omega arith; right = omega arith }) plane in
       let is_bad : bad f r c ≡ bad g r c =
-      rests f g r c (agree r c 0 (record { top = omega arith; bottom = omega arith; left = omega arith; right = omega arith }) (omega arith)) in
-      let near = λ (i j : ℕ) (there : HasPixel (grown rect 2 (whole_rect rows cols)) i j). agree i j 0 there (omega arith) in
-      let count : good_count (bad f) rows cols r c (steps_of green) ≡ good_count (bad g) rows cols r c (steps_of green) =
-      same_sums _ _ (steps_of green) (each_step _ (λ step short. same_good bad rests rows cols f g r c rect pixel near (λ b v. if b then 1 else 0) (λ v. refl) step short) green) in
-      let total : good_sum (bad f) rows cols f r c (steps_of green) ≡ good_sum (bad g) rows cols g r c (steps_of green) =
-      same_sums _ _ (steps_of green) (each_step _ (λ step short. same_good bad rests rows cols f g r c rect pixel near (λ b v. if b then v else 0) (λ v. refl) step short) green) in
+      rests f g r c (agree r c 0 (record {
+        top = omega arith;
+        bottom = omega arith;
+        left = omega arith;
+        right = omega arith;
+      }) (omega arith)) in
+      let near = λ (i j : ℕ) (there : HasPixel (grown rect 2 (whole_rect rows cols)) i j). agree i j 0 there
+      (omega arith) in
+      let count : good_count (bad f) rows cols r c (steps_of green) ≡ good_count (bad g) rows cols r c
+      (steps_of green) =
+      same_sums _ _ (steps_of green)
+      (each_step _ (λ step short. same_good bad rests rows cols f g r c rect pixel near (λ b v. if b then 1 else 0)
+      (λ v. refl) step short) green) in
+      let total : good_sum (bad f) rows cols f r c (steps_of green) ≡ good_sum (bad g) rows cols g r c
+      (steps_of green) =
+      same_sums _ _ (steps_of green)
+      (each_step _ (λ step short. same_good bad rests rows cols f g r c rect pixel near (λ b v. if b then v else 0)
+      (λ v. refl) step short) green) in
       λ i. if is_bad i then mean_or (here i) (total i) (count i) else here i;
 }

@@ -1,14 +1,20 @@
--- Bad pixels that are mended (DNG 1.6, FixBadPixelsConstant and FixBadPixelsList). Which neighbours a bad pixel is mended
--- from, and their mean, is this project's own.
-use Rattle.std.specs.Prelude.{ℕ, ◌+◌, ◌-◌, ◌*◌, ◌/◌, ◌%◌, ◌==◌, ◌&&◌, ◌||◌, not, Bool, nat_le, nat_lt, if◌then◌else◌, List, [], ◌∷◌, count_by}
+-- Bad pixels that are mended (DNG 1.6, FixBadPixelsConstant and FixBadPixelsList). Which neighbours a bad pixel is
+-- mended from, and their mean, is this project's own.
+use Rattle.std.specs.Prelude.{◌≡◌, ℕ, ◌+◌, ◌-◌, ◌*◌, ◌/◌, ◌%◌, ◌==◌, ◌&&◌, ◌||◌, not, Bool, nat_le, nat_lt}
+use Rattle.std.specs.Prelude.{if◌then◌else◌, List, [], ◌∷◌, count_by}
 use Rattle.std.specs.List.{sum_by, list_any}
 use Rattle.plane_view.specs.declared.Rect.{Rect}
+use Rattle.plane_view.specs.declared.Shape.{Shape}
 use Rattle.plane_view.specs.Plane.{Plane, sample, plane_of}
 use Rattle.plane_view.specs.Rectangles.{has_pixel}
 use Rattle.opcode_stages.specs.declared.steps.Step.{Step}
 
--- whether a pixel is green. The phase tells the plane's top left pixel: 0 red, 1 green in a row of green and red, 2 green
--- in a row of green and blue, 3 blue
+-- planes of one sample a pixel
+abbrev pub IsSingle : Shape → Type 0
+IsSingle input = input.planes ≡ 1
+
+-- whether a pixel is green. The phase tells the plane's top left pixel: 0 red, 1 green in a row of green and red, 2
+-- green in a row of green and blue, 3 blue
 abbrev pub is_green : (phase r c : ℕ) → Bool
 is_green phase r c = if (phase == 0) || (phase == 3) then (r + c) % 2 == 1 else (r + c) % 2 == 0
 
@@ -61,7 +67,8 @@ good_sum bad rows cols at r c steps =
 abbrev pub mean_or : ℕ → (sum n : ℕ) → ℕ
 mean_or other sum n = if n == 0 then other else (2 * sum + n) / (2 * n)
 
--- the sample at row r, column c, where some pixels are bad: a bad one is the mean of its good neighbours, all of the input
+-- the sample at row r, column c, where some pixels are bad: a bad one is the mean of its good neighbours, all of the
+-- input
 abbrev pub mended_at : (ℕ → ℕ → Bool) → (phase rows cols : ℕ) → (ℕ → ℕ → ℕ → ℕ) → ℕ → ℕ → ℕ → ℕ
 mended_at bad phase rows cols at r c p =
     let steps = steps_of (is_green phase r c) in

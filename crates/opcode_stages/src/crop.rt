@@ -88,11 +88,13 @@ impl Stage for Crop {
 
     ghost makes_shapes = { λ s input. crop_shapes s.rect input };
 
-    ghost makes_planes = { λ s input P shape takes is. planes_by (cropped_shape s.rect) (λ whole at. cropped_at s.rect at) input P is };
+    ghost makes_planes = { λ s input P shape takes is. planes_by (cropped_shape s.rect)
+        (λ whole at. cropped_at s.rect at) input P is };
 
     ghost needs_part = { λ s input rect shape. crop_needs s.rect input rect };
 
-    ghost local = { λ s input rect shape takes part. local_by (cropped_shape s.rect) (λ whole at. cropped_at s.rect at) input (shifted rect s.rect.top s.rect.left) rect part (crop_rests s.rect input rect) };
+    ghost local = { λ s input rect shape takes part. local_by (cropped_shape s.rect) (λ whole at. cropped_at s.rect at)
+        input (shifted rect s.rect.top s.rect.left) rect part (crop_rests s.rect input rect) };
 
     ghost equal_alike = { crop_alike };
 }

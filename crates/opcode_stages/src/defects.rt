@@ -1,13 +1,14 @@
 //! Which pixels are bad, and how they are mended.
 
-ghost use Rattle.std.specs.Prelude.{◌≡◌, ℕ, ◌+◌, ◌-◌, ◌*◌, ◌<◌, ◌≤◌, Bool, true, Some, None, IfSome, if◌then◌else◌, length};
+ghost use Rattle.std.specs.Prelude.{◌≡◌, ℕ, ◌+◌, ◌-◌, ◌*◌, ◌<◌, ◌≤◌, Bool, true, Some, None, IfSome, if◌then◌else◌};
+ghost use Rattle.std.specs.Prelude.{length};
 ghost use Rattle.plane_view.specs.Lent.{HasRow, HasRun, sample_at};
 ghost use Rattle.plane_view.specs.Rectangles.{HasPixel, LiesIn, grown, whole_rect, width};
 ghost use Rattle.plane_view.specs.Rows.{IsRowOf};
 ghost use Rattle.plane_view.specs.Shapes.{IsShape};
 ghost use Rattle.stage_core.specs.Planes.{IsPart};
-ghost use Rattle.opcode_stages.specs.Mends.{is_good, row_after, col_after, mended_at};
-ghost use Rattle.opcode_stages.specs.MendRows.{IsShort, HasNear, IsNextBad, IsSingle};
+ghost use Rattle.opcode_stages.specs.Mends.{IsSingle, is_good, row_after, col_after, mended_at};
+ghost use Rattle.opcode_stages.specs.inner.MendRows.{IsShort, HasNear, IsNextBad};
 
 use crate::steps::{Step, is_green, steps_of};
 use plane_view::{Rect, Shape, View};
@@ -43,7 +44,8 @@ fn good_near<D: Defects>(
     requires planes { input.now.planes ≡ 1 }
     requires near { HasNear input.now.rect whole r c }
     requires short { IsShort step }
-    ensures sample { result ≡ (if is_good (D.bad defects.now (sample_at input.now)) whole.rows whole.cols r c step then Some (sample_at input.now (row_after r step) (col_after c step) 0) else None) }
+    ensures sample { result ≡ (if is_good (D.bad defects.now (sample_at input.now)) whole.rows whole.cols r c step
+        then Some (sample_at input.now (row_after r step) (col_after c step) 0) else None) }
     ensures small { IfSome result (λ sample. sample ≤ 65535) }
 {
     if !step.stays(whole, r, c) {
@@ -62,7 +64,8 @@ fn mend<D: Defects>(defects: &D, input: &View<'_>, whole: Shape, phase: u8, r: u
     requires planes { input.now.planes ≡ 1 }
     requires near { HasNear input.now.rect whole r c }
     requires bad { D.bad defects.now (sample_at input.now) r c ≡ true }
-    ensures { result ≡ mended_at (D.bad defects.now (sample_at input.now)) phase whole.rows whole.cols (sample_at input.now) r c 0 }
+    ensures { result ≡ mended_at (D.bad defects.now (sample_at input.now)) phase whole.rows whole.cols
+        (sample_at input.now) r c 0 }
 {
     let mut sum = 0;
     let mut count = 0;
@@ -96,7 +99,8 @@ pub(crate) fn fill_row<D: Defects>(
     requires need { LiesIn (grown rect 2 (whole_rect whole.rows whole.cols)) input.now.rect }
     requires row { HasRow rect r }
     requires out { length out.old ≡ width rect * 1 }
-    ensures { IsRowOf (mended_at (D.bad defects.now (sample_at input.now)) phase whole.rows whole.cols (sample_at input.now)) rect 1 r out.new }
+    ensures { IsRowOf (mended_at (D.bad defects.now (sample_at input.now)) phase whole.rows whole.cols
+        (sample_at input.now)) rect 1 r out.new }
 {
     let Rect { left, right, .. } = rect;
     out.copy_from_slice(input.run(r, left, right));

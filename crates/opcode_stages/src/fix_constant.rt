@@ -2,8 +2,7 @@
 
 ghost use Rattle.std.specs.Prelude.{◌≡◌, ◌+◌, ◌-◌, ◌*◌, ◌<◌, ◌≤◌, length};
 ghost use Rattle.plane_view.specs.Rectangles.{grown, whole_rect};
-ghost use Rattle.opcode_stages.specs.Mends.{mended, mended_at, equals};
-ghost use Rattle.opcode_stages.specs.MendRows.{IsSingle};
+ghost use Rattle.opcode_stages.specs.Mends.{IsSingle, mended, mended_at, equals};
 
 use crate::defects::{Defects, fill_row};
 use plane_view::{Rect, Shape, TileMut, View};
@@ -87,11 +86,15 @@ impl Stage for FixConstant {
 
     ghost makes_shapes = { λ s input is takes. is };
 
-    ghost makes_planes = { λ s input P shape takes is. planes_by (λ t. t) (λ t at. mended_at (equals (constant_of s) at) (phase_of s) t.rows t.cols at) input P is };
+    ghost makes_planes = { λ s input P shape takes is. planes_by (λ t. t)
+        (λ t at. mended_at (equals (constant_of s) at) (phase_of s) t.rows t.cols at) input P is };
 
     ghost needs_part = { λ s input rect shape takes part. mend_needs input rect part };
 
-    ghost local = { λ s input rect shape takes part. local_by (λ t. t) (λ t at. mended_at (equals (constant_of s) at) (phase_of s) t.rows t.cols at) input (grown rect 2 (whole_rect input.rows input.cols)) rect part (mend_rests (equals (constant_of s)) (equals_rests (constant_of s)) (phase_of s) input rect takes part) };
+    ghost local = { λ s input rect shape takes part. local_by (λ t. t)
+        (λ t at. mended_at (equals (constant_of s) at) (phase_of s) t.rows t.cols at) input
+        (grown rect 2 (whole_rect input.rows input.cols)) rect part
+        (mend_rests (equals (constant_of s)) (equals_rests (constant_of s)) (phase_of s) input rect takes part) };
 
     ghost equal_alike = { constant_alike };
 }

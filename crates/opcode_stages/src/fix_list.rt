@@ -3,8 +3,7 @@
 ghost use Rattle.std.specs.Prelude.{◌≡◌, ◌≤◌, ◌↔◌, IfOk, IsTrue};
 ghost use Rattle.plane_view.specs.Rectangles.{grown, whole_rect};
 ghost use Rattle.opcode_stages.specs.BadPixels.{same_pixels};
-ghost use Rattle.opcode_stages.specs.Mends.{is_listed, mended, mended_at};
-ghost use Rattle.opcode_stages.specs.MendRows.{IsSingle};
+ghost use Rattle.opcode_stages.specs.Mends.{IsSingle, is_listed, mended, mended_at};
 
 use crate::defects::{Defects, fill_row};
 use crate::places::Places;
@@ -34,7 +33,7 @@ impl Model for FixList {
     ghost use Rattle.std.specs.Prelude.{◌≡◌, ℕ, ◌^◌, ◌<◌};
     ghost use Rattle.opcode_stages.specs.BadPixels.{BadPixels};
     ghost use Rattle.opcode_stages.specs.Mends.{is_point};
-    ghost use Rattle.opcode_stages.specs.Indexes.{has_place};
+    ghost use Rattle.opcode_stages.specs.inner.Indexes.{has_place};
 
     ghost Value = { BadPixels };
 
@@ -141,11 +140,15 @@ impl Stage for FixList {
 
     ghost makes_shapes = { λ s input is takes. is };
 
-    ghost makes_planes = { λ s input P shape takes is. planes_by (λ t. t) (λ t at. mended_at (is_listed s.points s.rects at) s.phase t.rows t.cols at) input P is };
+    ghost makes_planes = { λ s input P shape takes is. planes_by (λ t. t)
+        (λ t at. mended_at (is_listed s.points s.rects at) s.phase t.rows t.cols at) input P is };
 
     ghost needs_part = { λ s input rect shape takes part. mend_needs input rect part };
 
-    ghost local = { λ s input rect shape takes part. local_by (λ t. t) (λ t at. mended_at (is_listed s.points s.rects at) s.phase t.rows t.cols at) input (grown rect 2 (whole_rect input.rows input.cols)) rect part (mend_rests (is_listed s.points s.rects) (listed_rests s.points s.rects) s.phase input rect takes part) };
+    ghost local = { λ s input rect shape takes part. local_by (λ t. t)
+        (λ t at. mended_at (is_listed s.points s.rects at) s.phase t.rows t.cols at) input
+        (grown rect 2 (whole_rect input.rows input.cols)) rect part
+        (mend_rests (is_listed s.points s.rects) (listed_rests s.points s.rects) s.phase input rect takes part) };
 
     ghost equal_alike = { list_alike };
 }

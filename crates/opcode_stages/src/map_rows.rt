@@ -1,7 +1,7 @@
 //! A row of samples that is mapped.
 
 ghost use Rattle.std.specs.Prelude.{◌*◌, ◌^◌, ◌<◌, ◌≤◌, length};
-ghost use Rattle.opcode_stages.specs.MapRows.{MapsColumns, IsFirstFrom};
+ghost use Rattle.opcode_stages.specs.inner.MapRows.{MapsColumns, IsFirstFrom};
 
 /// The columns from one on, at a pitch, up to another.
 #[derive(Clone, Copy)]

@@ -33,11 +33,25 @@ impl Model for MapTable {
 
     ghost Value = { Mapping };
 
-    ghost view = { λ s. record { rect = s.rect; plane = s.plane; planes = s.planes; row_pitch = s.row_pitch; col_pitch = s.col_pitch; table = s.table } };
+    ghost view = { λ s. record {
+      rect = s.rect;
+      plane = s.plane;
+      planes = s.planes;
+      row_pitch = s.row_pitch;
+      col_pitch = s.col_pitch;
+      table = s.table;
+    } };
 
     ghost invariant = { λ s. IsApart s.row_pitch s.col_pitch s.table };
 
-    ghost inverse = { λ m. record { rect = m.rect; plane = m.plane; planes = m.planes; row_pitch = m.row_pitch; col_pitch = m.col_pitch; table = m.table } };
+    ghost inverse = { λ m. record {
+      rect = m.rect;
+      plane = m.plane;
+      planes = m.planes;
+      row_pitch = m.row_pitch;
+      col_pitch = m.col_pitch;
+      table = m.table;
+    } };
 }
 
 impl MapTable {
@@ -84,7 +98,8 @@ impl MapTable {
 
     /// Whether samples of row `r` may change.
     fn has_row(&self, r: u32) -> bool
-        ensures { result ≡ (nat_le self.now.rect.top r && nat_lt r self.now.rect.bottom && ((r - self.now.rect.top) % self.now.row_pitch == 0)) }
+        ensures { result ≡ (nat_le self.now.rect.top r && nat_lt r self.now.rect.bottom
+            && ((r - self.now.rect.top) % self.now.row_pitch == 0)) }
     {
         let Rect { top, bottom, .. } = self.rect;
         top <= r && r < bottom && (r - top) % self.row_pitch == 0
@@ -158,7 +173,8 @@ impl Stage for MapTable {
 
     ghost needs_part = { λ s input rect shape takes part. part };
 
-    ghost local = { λ s input rect shape takes part. local_by (λ t. t) (λ whole at. mapped_at s at) input rect rect part (map_rests s input rect) };
+    ghost local = { λ s input rect shape takes part. local_by (λ t. t) (λ whole at. mapped_at s at) input rect rect part
+        (map_rests s input rect) };
 
     ghost equal_alike = { map_alike };
 }

@@ -2,8 +2,8 @@
 
 ghost use Rattle.std.specs.Prelude.{◌≡◌, ℕ, ◌+◌, ◌*◌, ◌^◌, ◌<◌, ◌≤◌, IfOk, IfSome};
 ghost use Rattle.opcode_stages.specs.Mends.{is_point};
-ghost use Rattle.opcode_stages.specs.MendRows.{IsNextBad};
-ghost use Rattle.opcode_stages.specs.Places.{place_of, IsRising, IsFirstPlace};
+ghost use Rattle.opcode_stages.specs.inner.MendRows.{IsNextBad};
+ghost use Rattle.opcode_stages.specs.inner.Places.{place_of, IsRising, IsFirstPlace};
 
 use lists::Items;
 use std::alloc::{AllocError, Global};
@@ -23,7 +23,7 @@ fn place(r: u32, c: u32) -> u64
 }
 
 impl Places {
-    ghost use Rattle.opcode_stages.specs.Indexes.{has_place};
+    ghost use Rattle.opcode_stages.specs.inner.Indexes.{has_place};
 
     /// The places of points: row, column.
     pub(crate) fn new(alloc: Global, points: &[(u32, u32)]) -> Result<Places, AllocError>

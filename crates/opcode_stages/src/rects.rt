@@ -3,7 +3,7 @@
 ghost use Rattle.std.specs.Prelude.{◌≡◌, ◌≤◌};
 ghost use Rattle.std.specs.List.{list_any};
 ghost use Rattle.plane_view.specs.Rectangles.{has_pixel};
-ghost use Rattle.opcode_stages.specs.MendRows.{IsNextBad};
+ghost use Rattle.opcode_stages.specs.inner.MendRows.{IsNextBad};
 
 use plane_view::Rect;
 

@@ -3,7 +3,7 @@
 ghost use Rattle.std.specs.Prelude.{◌≡◌, ◌+◌, ◌<◌, ◌≤◌, ◌^◌};
 ghost use Rattle.std.specs.List.{All};
 ghost use Rattle.opcode_stages.specs.Mends.{is_green, steps_of, row_after, col_after, stays};
-ghost use Rattle.opcode_stages.specs.MendRows.{IsShort};
+ghost use Rattle.opcode_stages.specs.inner.MendRows.{IsShort};
 
 use plane_view::Shape;
 

@@ -1,5 +1,6 @@
 -- Lines between points.
-use Rattle.std.proofs.Common.{◌≡◌, ℕ, zero, suc, ◌+◌, ◌-◌, ◌*◌, ◌/◌, ◌<◌, ◌≤◌, ℤ, pos, negsuc, ◌+ℤ◌, ◌-ℤ◌, ◌*ℤ◌, neg_ℤ, sym, ◌∙◌, ap, arith}
+use Rattle.std.proofs.Common.{◌≡◌, ℕ, zero, suc, ◌+◌, ◌-◌, ◌*◌, ◌/◌, ◌<◌, ◌≤◌, ℤ, pos, negsuc, ◌+ℤ◌, ◌-ℤ◌, ◌*ℤ◌, neg_ℤ}
+use Rattle.std.proofs.Common.{sym, ◌∙◌, ap, arith}
 use Rattle.std.specs.Int.{int_div_euclid}
 use Rattle.std.proofs.lemmas.Int.{ints}
 use Rattle.std.proofs.lemmas.Nat.{mul-le, div_below}
@@ -12,7 +13,8 @@ natural_sub : (y q : ℕ) → q + 1 ≤ y → y - (q + 1) ≡ natural (pos y +�
 natural_sub y q within = let is : pos (y - (q + 1)) ≡ pos y +ℤ negsuc q = omega (arith, ints) in ap natural is
 
 -- a quotient of a negative number
-fall : (y d n : ℕ) → 0 < d → (n + d - 1) / d ≤ y → y - (n + d - 1) / d ≡ natural (pos y +ℤ int_div_euclid (neg_ℤ (pos n)) (pos d))
+fall : (y d n : ℕ) → 0 < d → (n + d - 1) / d ≤ y
+    → y - (n + d - 1) / d ≡ natural (pos y +ℤ int_div_euclid (neg_ℤ (pos n)) (pos d))
 fall y d zero some within =
     let none : (0 + d - 1) / d < 1 = div_below (0 + d - 1) d 1 some (omega arith) in
     let same : y - (0 + d - 1) / d ≡ y + 0 / d = rw (zero-div d) (omega arith) in
@@ -32,7 +34,8 @@ fall_within a d rise part some =
     omega arith
 
 -- down from a point
-pub line_down : (x0 y0 x1 y1 x : ℕ) → x0 ≤ x → x < x1 → y1 < y0 → y0 - ((x - x0) * (y0 - y1) + (x1 - x0) - 1) / (x1 - x0) ≡ line_at (x0, y0) (x1, y1) x
+pub line_down : (x0 y0 x1 y1 x : ℕ) → x0 ≤ x → x < x1 → y1 < y0
+    → y0 - ((x - x0) * (y0 - y1) + (x1 - x0) - 1) / (x1 - x0) ≡ line_at (x0, y0) (x1, y1) x
 line_down x0 y0 x1 y1 x left right down =
     let a : ℕ = x - x0 in
     let d : ℕ = x1 - x0 in

@@ -1,5 +1,6 @@
--- The points of a tone curve, which are this project's own.
-use Rattle.std.specs.Prelude.{ℕ, ◌-◌, ◌++◌, ◌==◌, ◌&&◌, Bool, false, if◌then◌else◌, List, [], ◌∷◌, Option, Some, None, length, replicate, nat_lt, nat_le}
+-- The points of a tone curve: this project's own.
+use Rattle.std.specs.Prelude.{ℕ, ◌-◌, ◌++◌, ◌==◌, ◌&&◌, Bool, false, if◌then◌else◌, List, [], ◌∷◌, Option, Some, None}
+use Rattle.std.specs.Prelude.{length, replicate, nat_lt, nat_le}
 
 -- the first coordinates rise strictly, from above x on, and the last of them, or x where there is none, is `end`
 abbrev pub rise_to : ℕ → ℕ → List (ℕ × ℕ) → Bool

@@ -1,4 +1,4 @@
--- Laws of tones as stages.
+-- Laws of tones as stages: this project's own.
 use Rattle.std.proofs.Common.{◌≡◌, ℕ, List, true, refl, ap}
 use Rattle.std.specs.Prelude.{slice_index}
 use Rattle.std.specs.Cmp.{unsigned_Decides}
@@ -18,6 +18,7 @@ entry_rests table planes rect = record {
 
 -- equal tones are alike
 pub same_tones : (s t : List ℕ) → ghosts.eq s t ≡ true
-    → AreAlike (λ (s : List ℕ) (input : Shape). input.planes ≡ 3) (λ (s : List ℕ) (input : Shape). input) (λ (s : List ℕ) (input : Shape) (rect : Rect). rect) (λ (s : List ℕ) P. toned s P) s t
+    → AreAlike (λ (s : List ℕ) (input : Shape). input.planes ≡ 3) (λ (s : List ℕ) (input : Shape). input)
+    (λ (s : List ℕ) (input : Shape) (rect : Rect). rect) (λ (s : List ℕ) P. toned s P) s t
 same_tones s t equal =
     alike_same _ _ _ _ s t ((slice_eq-Decides unsigned_Decides s t (ghosts.eq s t) refl).0 equal)

@@ -1,4 +1,4 @@
 pub mod Knots
 pub mod Tones
-pub mod Fills
 pub mod Laws
+pub mod inner

@@ -1,5 +1,6 @@
 -- Tone curves and their tables: this project's own.
-use Rattle.std.specs.Prelude.{◌≡◌, ℕ, zero, suc, ◌*◌, ◌<◌, Bool, nat_le, nat_lt, if◌then◌else◌, ℤ, pos, negsuc, ◌+ℤ◌, ◌-ℤ◌, ◌*ℤ◌, List, [], ◌∷◌, length, slice_index}
+use Rattle.std.specs.Prelude.{◌≡◌, ℕ, zero, suc, ◌*◌, ◌<◌, Bool, nat_le, nat_lt, if◌then◌else◌, ℤ, pos, negsuc, ◌+ℤ◌}
+use Rattle.std.specs.Prelude.{◌-ℤ◌, ◌*ℤ◌, List, [], ◌∷◌, length, slice_index}
 use Rattle.std.specs.Int.{int_div_euclid}
 use Rattle.plane_view.specs.Plane.{Plane, sample, plane_of}
 use Rattle.tone_table.specs.declared.Curve.{Curve}
@@ -22,7 +23,8 @@ natural (negsuc n) = 0
 -- the height at x of the line from one point to another that is to its right, rounded down
 abbrev pub line_at : ℕ × ℕ → ℕ × ℕ → ℕ → ℕ
 line_at one other x =
-    natural (pos one.1 +ℤ int_div_euclid ((pos x -ℤ pos one.0) *ℤ (pos other.1 -ℤ pos one.1)) (pos other.0 -ℤ pos one.0))
+    natural (pos one.1 +ℤ int_div_euclid ((pos x -ℤ pos one.0) *ℤ (pos other.1 -ℤ pos one.1))
+    (pos other.0 -ℤ pos one.0))
 
 -- the height at x of the lines between points that follow each other; from the last one on, its own
 abbrev pub knots_at : List (ℕ × ℕ) → ℕ → ℕ

@@ -2,7 +2,7 @@
 
 ghost use Rattle.std.specs.Prelude.{◌≡◌, ◌+◌, ◌-◌, ◌*◌, ◌<◌, ◌≤◌, ◌^◌, IsTrue, length};
 ghost use Rattle.tone_table.specs.Tones.{root_of, line_at, knots_at};
-ghost use Rattle.tone_table.specs.Fills.{HasEntries, SameBelow, rise_from_first, first_of};
+ghost use Rattle.tone_table.specs.inner.Fills.{HasEntries, SameBelow, rise_from_first, first_of};
 
 /// How many entries a table has.
 pub(crate) const ENTRIES: usize = 65536;

@@ -5,7 +5,7 @@ ghost use Rattle.plane_view.specs.Lent.{HasRun, sample_at};
 ghost use Rattle.plane_view.specs.Rectangles.{width};
 ghost use Rattle.plane_view.specs.Rows.{IsRowOf};
 ghost use Rattle.tone_table.specs.Tones.{IsTableOf, entry_at, toned};
-ghost use Rattle.tone_table.specs.Fills.{HasLookups};
+ghost use Rattle.tone_table.specs.inner.Fills.{HasLookups};
 
 use crate::Curve;
 use crate::fills::{ENTRIES, fill_knots, fill_linear, fill_root};
@@ -140,7 +140,8 @@ impl Stage for Tone {
 
     ghost needs_part = { λ s input rect shape takes part. part };
 
-    ghost local = { λ s input rect shape takes part. local_by (λ t. t) (λ t at. entry_at s at) input rect rect part (entry_rests s input.planes rect) };
+    ghost local = { λ s input rect shape takes part. local_by (λ t. t) (λ t at. entry_at s at) input rect rect part
+        (entry_rests s input.planes rect) };
 
     ghost equal_alike = { same_tones };
 }

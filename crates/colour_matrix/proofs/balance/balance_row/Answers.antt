@@ -15,8 +15,11 @@ returns c = λ s factors.
       samples = λ k p pixel plane.
           let d = k - left in
           let i = d * 3 + p in
-          let inside : i < length from = run_index from L c.args.r left right c.run.ensures d p 3 (omega arith) (omega arith) plane in
+          let inside : i < length from = run_index from L c.args.r left right c.run.ensures d p 3 (omega arith)
+          (omega arith) plane in
           let is : i % 3 ≡ p = mod-mul-add d 3 p plane in
           c.balance_samples.ensures s factors i inside
-          ∙ (λ z. balanced_value (slice_index s.gains (is z)) s.exposure (run_point from L c.args.r left right c.run.ensures k p d 3 (omega arith) (omega arith) (omega arith) (omega arith) z));
+          ∙ (λ z. balanced_value (slice_index s.gains (is z)) s.exposure
+          (run_point from L c.args.r left right c.run.ensures k p d 3 (omega arith) (omega arith) (omega arith)
+          (omega arith) z));
     }

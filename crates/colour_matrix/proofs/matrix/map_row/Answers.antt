@@ -14,10 +14,13 @@ returns c = λ m rows.
       samples = λ k p pixel plane.
           let d = k - left in
           let at : d * 3 + 0 ≡ d * 3 = omega arith in
-          let red_at = run_point from L c.args.r left right c.run.ensures k 0 d 3 (omega arith) (omega arith) (omega arith) (omega arith) in
+          let red_at = run_point from L c.args.r left right c.run.ensures k 0 d 3 (omega arith) (omega arith)
+          (omega arith) (omega arith) in
           let red = ap (λ n. get_or from n 0) (sym at) ∙ red_at in
-          let green = run_point from L c.args.r left right c.run.ensures k 1 d 3 (omega arith) (omega arith) (omega arith) (omega arith) in
-          let blue = run_point from L c.args.r left right c.run.ensures k 2 d 3 (omega arith) (omega arith) (omega arith) (omega arith) in
+          let green = run_point from L c.args.r left right c.run.ensures k 1 d 3 (omega arith) (omega arith)
+          (omega arith) (omega arith) in
+          let blue = run_point from L c.args.r left right c.run.ensures k 2 d 3 (omega arith) (omega arith)
+          (omega arith) (omega arith) in
           c.map_pixels.ensures m rows d p (omega arith) plane
           ∙ (λ z. matrixed_value m p (red z) (green z) (blue z));
     }

@@ -6,7 +6,8 @@ use Rattle.colour_matrix.proofs.matrix_rows.map_pixels.Goals as goal
 pub loop-k-preserved : goal.loop-k-preserved
 loop-k-preserved c = λ m rows.
     rw c.put.ensures
-    (matrixed_more m c.args.from.now c.loop-k.out c.loop-k.k c.times-red.result c.times-green.result c.times-blue.result (omega arith)
+    (matrixed_more m c.args.from.now c.loop-k.out c.loop-k.k c.times-red.result c.times-green.result c.times-blue.result
+    (omega arith)
     (c.times-red.ensures (entry_at m 0 0) (entry_at m 0 1) (entry_at m 0 2) (rows 0 (omega arith)))
     (c.times-green.ensures (entry_at m 1 0) (entry_at m 1 1) (entry_at m 1 2) (rows 1 (omega arith)))
     (c.times-blue.ensures (entry_at m 2 0) (entry_at m 2 1) (entry_at m 2 2) (rows 2 (omega arith)))

@@ -1,5 +1,5 @@
 use Rattle.std.proofs.Common.{List, ℤ}
-use Rattle.colour_matrix.specs.MatrixRows.{AreRows, HasMatrixed}
+use Rattle.colour_matrix.specs.inner.MatrixRows.{AreRows, HasMatrixed}
 use Rattle.colour_matrix.proofs.matrix_rows.map_pixels.Given as goal
 
 abbrev pub invariant-loop-k : goal.invariant-loop-k

@@ -1,4 +1,5 @@
-use Rattle.std.proofs.Common.{◌≡◌, ℕ, ◌<◌, ◌/◌, ◌%◌, pos, get_or, set, to_z, of_z, length, arith, below_more, subst, sym, ◌≢◌, get_or-set_other, get_or-set_same, ◌∙◌}
+use Rattle.std.proofs.Common.{◌≡◌, ℕ, ◌<◌, ◌/◌, ◌%◌, pos, get_or, set, to_z, of_z, length, arith, below_more, subst}
+use Rattle.std.proofs.Common.{sym, ◌≢◌, get_or-set_other, get_or-set_same, ◌∙◌}
 use Rattle.std.specs.Int.{w32}
 use Rattle.std.proofs.lemmas.Int.{ints}
 use Rattle.tag_rules.specs.Quantities.{IsWithin}
@@ -18,7 +19,8 @@ loop-k-preserved c =
       within = below_more (λ j. IsWithin 33554432 (get_or (set out k v) j (pos 0))) k
           (λ j below. subst (IsWithin 33554432) (sym (other j below)) (c.loop-k.invariant.within j below))
           (subst (IsWithin 33554432) (sym here) c.across_of.ensures.within);
-      levels = below_more (λ j. get_or (set out k v) j (pos 0) ≡ across_at c.args.levels.now (j / c.args.cols) (j % c.args.cols)) k
+      levels = below_more (λ j. get_or (set out k v) j (pos 0) ≡ across_at c.args.levels.now (j / c.args.cols)
+          (j % c.args.cols)) k
           (λ j below. other j below ∙ c.loop-k.invariant.levels j below)
           (here ∙ c.across_of.ensures.value);
     }

@@ -16,6 +16,7 @@ returns c =
     let other_is : to_z w32 (of_z w32 other) ≡ other = omega (arith, ints, c.sum-other.ensures) in
     let first : one ≡ c.args.x +ℤ c.args.more_x = omega (arith, ints, c.sum-one.ensures) in
     let second : other ≡ c.args.y +ℤ c.args.more_y = omega (arith, ints, c.sum-other.ensures) in (
-      λ yes. sym first ∙ sym one_is ∙ ap (to_z w32) (same_number (of_z w32 one) (of_z w32 other) yes) ∙ other_is ∙ second,
+      λ yes. sym first ∙ sym one_is ∙ ap (to_z w32) (same_number (of_z w32 one) (of_z w32 other) yes) ∙ other_is
+          ∙ second,
       λ same. eq-eqb (of_z w32 one) (of_z w32 other) (ap (of_z w32) (first ∙ same ∙ sym second)),
     )

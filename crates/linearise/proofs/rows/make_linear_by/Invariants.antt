@@ -1,4 +1,4 @@
-use Rattle.linearise.specs.Rows.{IsLinearTo}
+use Rattle.linearise.specs.inner.Rows.{IsLinearTo}
 use Rattle.linearise.proofs.rows.make_linear_by.Given as goal
 
 abbrev pub invariant-loop-k : goal.invariant-loop-k

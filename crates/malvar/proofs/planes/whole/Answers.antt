@@ -12,14 +12,16 @@ use Rattle.malvar.specs.Mosaics.{colours_of}
 use Rattle.malvar.proofs.planes.whole.Goals as goal
 
 -- the samples over the rectangle of a whole plane
-whole_samples : (rows cols planes : ℕ) (f : ℕ → ℕ → ℕ → ℕ) → samples_of (rows - 0) (cols - 0) planes (λ r c p. f (0 + r) (0 + c) p) ≡ samples_of rows cols planes f
+whole_samples : (rows cols planes : ℕ) (f : ℕ → ℕ → ℕ → ℕ)
+    → samples_of (rows - 0) (cols - 0) planes (λ r c p. f (0 + r) (0 + c) p) ≡ samples_of rows cols planes f
 whole_samples rows cols planes f = simp (sub-zero, zero-add)
 
 -- a whole plane, lent
 abbrev lent_whole : (rows cols : ℕ) → List ℕ → Lent
 lent_whole rows cols samples = record { rect = whole_rect rows cols; planes = 1; samples = samples }
 
-same_sample : (rows cols : ℕ) (xs : List ℕ) (r c p : ℕ) → sample_at (lent_whole rows cols xs) r c p ≡ sample (record { rows = rows; cols = cols; planes = 1; samples = xs }) r c p
+same_sample : (rows cols : ℕ) (xs : List ℕ) (r c p : ℕ) → sample_at (lent_whole rows cols xs) r c p
+    ≡ sample (record { rows = rows; cols = cols; planes = 1; samples = xs }) r c p
 same_sample rows cols xs r c p = simp sub-zero
 
 pub returns : goal.returns
@@ -31,13 +33,15 @@ returns c =
     let V : Lent = c.new-input.result in
     let f : List ℕ → (ℕ → ℕ → ℕ → ℕ) → ℕ → ℕ → ℕ → ℕ = λ cfa at. demosaiced_at malvar cfa rows cols at in
     let g = f (colours_of c.new-pattern.result) (sample_at V) in
-    let lent : loan first ≡ record { rect = c.rect-all.result; planes = 3; samples = c.args.out.now } = c.new.ensures.lent in
+    let lent : loan first ≡ record { rect = c.rect-all.result; planes = 3; samples = c.args.out.now } =
+    c.new.ensures.lent in
     let has : HasSamples g (loan c.write_rows.new.self) (tile_rect first) = c.write_rows.ensures.rows g
     (λ r old new row long_old long_new called.
     let fact : IsRowOf g c.rect-all.result 3 r new.now = search rules in
     subst (λ (x : Rect). IsRowOf g x (loan first).planes r new.now) (sym c.new.ensures.rect)
     (subst (λ (n : ℕ). IsRowOf g c.rect-all.result n r new.now) (sym (ap (λ (L : Lent). L.planes) lent)) fact)) in
-    let view : V ≡ lent_whole rows cols xs = c.new-input.ensures ∙ ap (λ (x : Rect). record { rect = x; planes = 1; samples = xs }) c.rect-all.ensures in
+    let view : V ≡ lent_whole rows cols xs = c.new-input.ensures
+    ∙ ap (λ (x : Rect). record { rect = x; planes = 1; samples = xs }) c.rect-all.ensures in
     (search rules)
     ∙ slice_written g first c.write_rows.new.self _ lent c.new.ensures.rect c.write_rows.ensures.loan has
     ∙ ap (λ (x : Rect). (lent_of x 3 g).samples) c.rect-all.ensures

@@ -1,5 +1,5 @@
 use Rattle.std.proofs.Common.{◌+◌, ◌-◌, ◌*◌}
-use Rattle.malvar.specs.Rows.{HasPixels, SameBelow, row_sample}
+use Rattle.malvar.specs.inner.Rows.{HasPixels, SameBelow, row_sample}
 use Rattle.malvar.proofs.rows.fill_pairs.Given as goal
 
 abbrev pub invariant-loop-k : goal.invariant-loop-k

@@ -1,6 +1,6 @@
 use Rattle.std.proofs.Common.{◌-◌}
-use Rattle.malvar.specs.Around.{even_site, odd_site}
-use Rattle.malvar.specs.Rows.{HasPixels, SameBelow, row_sample}
+use Rattle.malvar.specs.inner.Around.{even_site, odd_site}
+use Rattle.malvar.specs.inner.Rows.{HasPixels, SameBelow, row_sample}
 use Rattle.malvar.proofs.rows.fill_reflecting.Given as goal
 
 abbrev pub invariant-loop-c : goal.invariant-loop-c

@@ -1,10 +1,10 @@
 use Rattle.std.proofs.Common.{◌≡◌, ◌+◌, ◌∙◌, ap, arith}
 use Rattle.plane_view.specs.Lent.{sample_at}
-use Rattle.malvar.specs.Around.{even_site, odd_site}
+use Rattle.malvar.specs.inner.Around.{even_site, odd_site}
 use Rattle.malvar.specs.Demosaic.{demosaiced_at, table_of, reach_of}
 use Rattle.malvar.specs.Mosaics.{colours_of}
-use Rattle.malvar.specs.Sums.{reaches}
-use Rattle.malvar.specs.Rows.{Spans}
+use Rattle.malvar.specs.inner.AroundLaws.{reaches}
+use Rattle.malvar.specs.inner.Rows.{Spans}
 use Rattle.plane_view.specs.declared.Rect.{Rect}
 use Rattle.plane_view.specs.Rectangles.{grown, whole_rect}
 use Rattle.malvar.proofs.RowSamples.{row_sample_is}
@@ -27,8 +27,15 @@ returns c =
     let reach = reaches kind in
     record {
       samples = λ k p pixel colour.
-          let spans : Spans (reach_of kind) w k (k + 1) = record { low = omega arith; order = omega arith; within = omega arith; high = omega arith } in
+          let spans : Spans (reach_of kind) w k (k + 1) = record {
+            low = omega arith;
+            order = omega arith;
+            within = omega arith;
+            high = omega arith;
+          } in
           c.fill.ensures k p pixel.left pixel.right colour
-          ∙ row_sample_is kind (even_site sites) (odd_site sites) w cfa L whole.rows r k p (omega arith) (omega arith) c.window_of-window.ensures.rows c.requires.planes spans c.sites.ensures.even c.sites.ensures.even_next c.sites.ensures.odd c.sites.ensures.odd_next
+          ∙ row_sample_is kind (even_site sites) (odd_site sites) w cfa L whole.rows r k p (omega arith) (omega arith)
+          c.window_of-window.ensures.rows c.requires.planes spans c.sites.ensures.even c.sites.ensures.even_next
+          c.sites.ensures.odd c.sites.ensures.odd_next
           ∙ ap (λ n. demosaiced_at (table_of kind) cfa whole.rows n (sample_at L) r k p) cols;
     }

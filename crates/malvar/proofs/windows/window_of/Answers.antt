@@ -6,7 +6,8 @@ use Rattle.malvar.specs.Demosaic.{reach_of}
 use Rattle.malvar.proofs.windows.window_of.Goals as goal
 
 -- the same run, of a row in another spelling
-of_row : (xs : List ℕ) (L : Lent) (rows left right : ℕ) (x y : ℤ) → IsRun xs L (reflected rows x) left right → x ≡ y → IsRun xs L (reflected rows y) left right
+of_row : (xs : List ℕ) (L : Lent) (rows left right : ℕ) (x y : ℤ) → IsRun xs L (reflected rows x) left right → x ≡ y
+    → IsRun xs L (reflected rows y) left right
 of_row xs L rows left right x y run same = subst (λ (z : ℤ). IsRun xs L (reflected rows z) left right) same run
 
 pub returns-clause-rows : goal.returns-clause-rows
@@ -19,11 +20,13 @@ returns-clause-rows c =
     let w : ℕ = part.right - part.left in
     let long : length c.run.result.now ≡ w * 1 = c.run.ensures.long ∙ ap (λ n. w * n) c.requires.planes in
     let end : part.right ≡ part.left + length c.run.result.now = omega arith in
-    let to = λ (xs : List ℕ) (row : ℕ) (run : IsRun xs L row part.left part.right). subst (λ (n : ℕ). IsRun xs L row part.left n) end run in
+    let to = λ (xs : List ℕ) (row : ℕ) (run : IsRun xs L row part.left part.right).
+    subst (λ (n : ℕ). IsRun xs L row part.left n) end run in
     record {
       far_up = to _ _ (of_row _ L rows part.left part.right _ (pos r -ℤ pos by) c.row_of.ensures (omega (arith, ints)));
       up = to _ _ (of_row _ L rows part.left part.right _ (pos r -ℤ pos 1) c.row_of-2.ensures (omega (arith, ints)));
       here = to _ _ c.run.ensures;
       down = to _ _ (of_row _ L rows part.left part.right _ (pos (r + 1)) c.row_of-3.ensures (omega (arith, ints)));
-      far_down = to _ _ (of_row _ L rows part.left part.right _ (pos (r + by)) c.row_of-4.ensures (omega (arith, ints)));
+      far_down = to _ _ (of_row _ L rows part.left part.right _ (pos (r + by)) c.row_of-4.ensures
+          (omega (arith, ints)));
     }

@@ -3,7 +3,7 @@ use Rattle.std.proofs.lemmas.Grind.{common_steps}
 use Rattle.std.proofs.lemmas.Result.{err_from_is_err_and}
 use Rattle.opcode_list.specs.Cuts.{cut_opcodes}
 use Rattle.opcode_list.specs.Lists.{opcode_of, opcodes_from}
-use Rattle.opcode_list.specs.Seen.{raw_seen}
+use Rattle.opcode_list.specs.inner.Seen.{raw_seen}
 use Rattle.opcode_list.proofs.Walk.{begins, ends, goes_on, hands_on, stops, stops_short}
 use Rattle.opcode_list.proofs.list.read_opcodes.Goals as goal
 

@@ -9,7 +9,8 @@ pub returns-then-not-fits-clause-answer : goal.returns-then-not-fits-clause-answ
 returns-then-not-fits-clause-answer c =
     let l = c.loop-index in
     let opcode = c.index-opcodes-index.result in
-    let unfit = misfits c.args.opcodes.now l.index opcode l.left (omega arith) c.index-opcodes-index.is (sym c.fits.ensures ∙ c.if-not-fits.true) in
+    let unfit = misfits c.args.opcodes.now l.index opcode l.left (omega arith) c.index-opcodes-index.is
+    (sym c.fits.ensures ∙ c.if-not-fits.true) in
     ap (λ misfit. left_or misfit (left_after c.args.opcodes.now c.args.shape)) (sym unfit ∙ l.invariant.fits)
 
 pub loop-index-preserved : goal.loop-index-preserved

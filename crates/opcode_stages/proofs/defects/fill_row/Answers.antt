@@ -17,8 +17,12 @@ loop-c-preserved g c =
       not_before = omega arith;
       not_past = next.not_past;
       found = next.found;
-      mended = mended_more (bad c.args.r) _ _ rect.left rect.right c.loop-c.c c.next_bad-c-in-loop-c.result c.mend.result c.loop-c.out
-          (λ k good. ap (λ (b : Bool). if b then mean_or (at c.args.r k 0) (good_sum bad whole.rows whole.cols at c.args.r k (steps_of (is_green c.args.phase c.args.r k))) (good_count bad whole.rows whole.cols c.args.r k (steps_of (is_green c.args.phase c.args.r k))) else at c.args.r k 0) good)
+      mended = mended_more (bad c.args.r) _ _ rect.left rect.right c.loop-c.c c.next_bad-c-in-loop-c.result
+          c.mend.result c.loop-c.out
+          (λ k good. ap (λ (b : Bool). if b then mean_or (at c.args.r k 0)
+          (good_sum bad whole.rows whole.cols at c.args.r k (steps_of (is_green c.args.phase c.args.r k)))
+          (good_count bad whole.rows whole.cols c.args.r k (steps_of (is_green c.args.phase c.args.r k))) else at
+          c.args.r k 0) good)
           held.not_before c.loop-c-test.true (omega arith) c.mend.ensures next held.mended;
     }
 

@@ -14,7 +14,8 @@ loop-k-preserved c =
     record {
       above = omega arith;
       step = next_step at.from k at.pitch (omega arith) held.above held.step;
-      done = maps_more table c.args.row.now c.loop-k.row n p at.from k at.to at.pitch (get_or table c.min.result 0) (omega arith) c.requires.plane held.above held.step (omega arith)
+      done = maps_more table c.args.row.now c.loop-k.row n p at.from k at.to at.pitch (get_or table c.min.result 0)
+          (omega arith) c.requires.plane held.above held.step (omega arith)
           (omega (arith, mul-add-lt k n p at.to c.loop-k-test.true c.requires.plane, c.loop-k.auto.row))
           (ap (λ m. get_or table m 0) (c.min.ensures ∙ ap (λ m. min m (length table - 1)) c.from.ensures)) held.done;
     }

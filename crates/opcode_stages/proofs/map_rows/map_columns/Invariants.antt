@@ -1,6 +1,6 @@
 -- The columns before column k are mapped.
 use Rattle.std.proofs.Common.{◌≡◌, ◌-◌, ◌%◌, ◌≤◌, min}
-use Rattle.opcode_stages.specs.MapRows.{MapsColumns}
+use Rattle.opcode_stages.specs.inner.MapRows.{MapsColumns}
 use Rattle.opcode_stages.proofs.map_rows.map_columns.Given as goal
 
 abbrev pub invariant-loop-k : goal.invariant-loop-k

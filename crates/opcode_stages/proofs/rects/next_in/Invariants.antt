@@ -2,7 +2,7 @@
 use Rattle.std.proofs.Common.{take}
 use Rattle.std.specs.List.{list_any}
 use Rattle.plane_view.specs.Rectangles.{has_pixel}
-use Rattle.opcode_stages.specs.MendRows.{IsNextBad}
+use Rattle.opcode_stages.specs.inner.MendRows.{IsNextBad}
 use Rattle.opcode_stages.proofs.rects.next_in.Given as goal
 
 abbrev pub invariant-loop-rect : goal.invariant-loop-rect

@@ -1,5 +1,5 @@
 use Rattle.tone_table.specs.Tones.{line_at}
-use Rattle.tone_table.specs.Fills.{HasEntries, SameBelow}
+use Rattle.tone_table.specs.inner.Fills.{HasEntries, SameBelow}
 use Rattle.tone_table.proofs.fills.fill_line.Given as goal
 
 abbrev pub invariant-loop-x : goal.invariant-loop-x

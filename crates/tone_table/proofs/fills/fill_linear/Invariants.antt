@@ -1,4 +1,4 @@
-use Rattle.tone_table.specs.Fills.{HasEntries}
+use Rattle.tone_table.specs.inner.Fills.{HasEntries}
 use Rattle.tone_table.proofs.fills.fill_linear.Given as goal
 
 abbrev pub invariant-loop-x : goal.invariant-loop-x

@@ -1,6 +1,6 @@
 use Rattle.std.proofs.Common.{◌*◌, ◌≤◌}
 use Rattle.tone_table.specs.Tones.{root_of}
-use Rattle.tone_table.specs.Fills.{HasEntries}
+use Rattle.tone_table.specs.inner.Fills.{HasEntries}
 use Rattle.tone_table.proofs.fills.fill_root.Given as goal
 
 abbrev pub invariant-loop-x : goal.invariant-loop-x

@@ -1,5 +1,5 @@
 use Rattle.std.proofs.Common.{◌≡◌, length}
-use Rattle.colour_matrix.specs.BalanceRows.{HasFactors}
+use Rattle.colour_matrix.specs.inner.BalanceRows.{HasFactors}
 use Rattle.colour_matrix.proofs.digit_products.Digits.new.Given as goal
 
 abbrev pub invariant-loop-i : goal.invariant-loop-i

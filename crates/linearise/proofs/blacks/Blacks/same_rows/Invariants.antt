@@ -1,5 +1,5 @@
 use Rattle.std.proofs.Common.{ℕ, ◌<◌}
-use Rattle.linearise.specs.Held.{SameRow}
+use Rattle.linearise.specs.inner.Held.{SameRow}
 use Rattle.linearise.proofs.blacks.Blacks.same_rows.Given as goal
 
 abbrev pub invariant-loop-r : goal.invariant-loop-r

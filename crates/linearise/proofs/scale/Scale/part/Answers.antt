@@ -13,4 +13,5 @@ overflow_cast-result-2 c =
 pub returns : goal.returns
 returns c =
     let s = c.args.self in
-    rw (c.from-held.ensures, c.from.ensures, c.from-2.ensures) (part_is s.span s.high s.low s.half s.shift c.args.held s.exact c.requires)
+    rw (c.from-held.ensures, c.from.ensures, c.from-2.ensures) (part_is s.span s.high s.low s.half s.shift c.args.held
+    s.exact c.requires)

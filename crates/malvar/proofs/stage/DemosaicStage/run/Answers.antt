@@ -16,7 +16,9 @@ returns-clause-made g c =
     let whole = c.args.whole in
     let first = c.args.out.now in
     let f = demosaiced_at (table_of s.kind) (cfa_of s) whole.rows whole.cols (sample_at L) in
-    made_by coloured (λ t at. demosaiced_at (table_of s.kind) (cfa_of s) t.rows t.cols at) whole L (grown first.rect (reach_of s.kind) (whole_rect whole.rows whole.cols)) first c.write_rows.new.self c.requires.rect c.requires.input c.requires.output
+    made_by coloured (λ t at. demosaiced_at (table_of s.kind) (cfa_of s) t.rows t.cols at) whole L
+    (grown first.rect (reach_of s.kind) (whole_rect whole.rows whole.cols)) first c.write_rows.new.self
+    c.requires.rect c.requires.input c.requires.output
     (reads_near s.kind (cfa_of s) whole first.rect c.requires.takes c.requires.rect) c.write_rows.ensures.loan
     (c.write_rows.ensures.rows f
     (λ r old new row long_old long_new called.

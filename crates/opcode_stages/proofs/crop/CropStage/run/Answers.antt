@@ -15,13 +15,17 @@ returns-clause-made g c =
     let whole = c.args._whole in
     let first = c.args.out.now in
     let f = cropped_at q (sample_at input) in
-    made_by (cropped_shape q) (λ _ at. cropped_at q at) whole input (shifted first.rect q.top q.left) first c.write_rows.new.self c.requires.rect c.requires.input c.requires.output
+    made_by (cropped_shape q) (λ _ at. cropped_at q at) whole input (shifted first.rect q.top q.left) first
+    c.write_rows.new.self c.requires.rect c.requires.input c.requires.output
     (crop_rests q whole first.rect) c.write_rows.ensures.loan
     (c.write_rows.ensures.rows f
     (λ r old new row long_old long_new called.
     let at : Rect = c.rect-rect.result in
     let copied : IsRun new.now input (q.top + r) (q.left + at.left) (q.left + at.right) = search rules in
-    let run = subst (λ (x : Rect). IsRun new.now input (q.top + r) (q.left + x.left) (q.left + x.right)) c.rect-rect.ensures copied in
+    let run = subst (λ (x : Rect). IsRun new.now input (q.top + r) (q.left + x.left) (q.left + x.right))
+    c.rect-rect.ensures copied in
     record {
-      samples = λ k p pixel plane. run_point new.now input (q.top + r) (q.left + first.rect.left) (q.left + first.rect.right) run (q.left + k) p (k - first.rect.left) first.planes (omega arith) (omega arith) (omega arith) (omega arith);
+      samples = λ k p pixel plane. run_point new.now input (q.top + r) (q.left + first.rect.left)
+          (q.left + first.rect.right) run (q.left + k) p (k - first.rect.left) first.planes (omega arith) (omega arith)
+          (omega arith) (omega arith);
     }))

@@ -10,4 +10,5 @@ returns-clause-value c = c.eq.ensures ∙ (λ i. same_pixels (c.self.view_is i) 
 
 pub returns-clause-same : goal.returns-clause-same
 returns-clause-same c =
-    subst (λ b. Decides b (c.args.self.now ≡ c.args.other.now)) (sym (returns-clause-value c)) (pixels_equality c.args.self.now c.args.other.now)
+    subst (λ b. Decides b (c.args.self.now ≡ c.args.other.now)) (sym (returns-clause-value c))
+    (pixels_equality c.args.self.now c.args.other.now)

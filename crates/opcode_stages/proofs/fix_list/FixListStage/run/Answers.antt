@@ -16,8 +16,11 @@ returns-clause-made g c =
     let first = c.args.out.now in
     let bad = is_listed s.points s.rects in
     let f = mended_at (bad (sample_at L)) s.phase whole.rows whole.cols (sample_at L) in
-    made_by (λ t. t) (λ t at. mended_at (bad at) s.phase t.rows t.cols at) whole L (grown first.rect 2 (whole_rect whole.rows whole.cols)) first c.write_rows.new.self c.requires.rect c.requires.input c.requires.output
-    (mend_rests bad (listed_rests s.points s.rects) s.phase whole first.rect c.requires.takes c.requires.rect) c.write_rows.ensures.loan
+    made_by (λ t. t) (λ t at. mended_at (bad at) s.phase t.rows t.cols at) whole L
+    (grown first.rect 2 (whole_rect whole.rows whole.cols)) first c.write_rows.new.self c.requires.rect
+    c.requires.input c.requires.output
+    (mend_rests bad (listed_rests s.points s.rects) s.phase whole first.rect c.requires.takes c.requires.rect)
+    c.write_rows.ensures.loan
     (c.write_rows.ensures.rows f
     (λ r old new row long_old long_new called.
     let at : Rect = c.rect-rect.result in

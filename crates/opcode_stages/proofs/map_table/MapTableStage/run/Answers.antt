@@ -14,7 +14,8 @@ returns-clause-made g c =
     let whole = c.args._whole in
     let first = c.args.out.now in
     let f = mapped_at m (sample_at L) in
-    made_by (λ t. t) (λ t at. mapped_at m at) whole L first.rect first c.write_rows.new.self c.requires.rect c.requires.input c.requires.output
+    made_by (λ t. t) (λ t at. mapped_at m at) whole L first.rect first c.write_rows.new.self c.requires.rect
+    c.requires.input c.requires.output
     (map_rests m whole first.rect) c.write_rows.ensures.loan
     (c.write_rows.ensures.rows f
     (λ r old new row long_old long_new called.

@@ -4,7 +4,7 @@ use Rattle.plane_view.specs.Reflect.{reflected}
 use Rattle.plane_view.specs.Lent.{Lent, IsRun}
 use Rattle.malvar.specs.declared.Kind.{Kind}
 use Rattle.malvar.specs.Demosaic.{table_of, reach_of}
-use Rattle.malvar.specs.Around.{own_colour, next_colour, sample_by, site_at}
+use Rattle.malvar.specs.inner.Around.{own_colour, next_colour, sample_by, site_at}
 use Rattle.malvar.specs.declared.filters.Around.{Around}
 use Rattle.malvar.specs.declared.filters.Site.{Site}
 use Rattle.malvar.specs.declared.rows.Window.{Window}
@@ -33,17 +33,19 @@ pub record Spans (reach : ℕ) (w : Window) (from to : ℕ) : Type 0 where
 abbrev pub around_by : Window → (far_left left c right far_right : ℕ) → Around
 around_by w far_left left c right far_right = record {
   centre = slice_index w.here.now c;
-  beside = slice_index w.here.now left + slice_index w.here.now right;
-  upright = slice_index w.up.now c + slice_index w.down.now c;
-  diagonal = (slice_index w.up.now left + slice_index w.up.now right) + (slice_index w.down.now left + slice_index w.down.now right);
-  beside_far = slice_index w.here.now far_left + slice_index w.here.now far_right;
-  upright_far = slice_index w.far_up.now c + slice_index w.far_down.now c;
+  horizontal = slice_index w.here.now left + slice_index w.here.now right;
+  vertical = slice_index w.up.now c + slice_index w.down.now c;
+  diagonal = (slice_index w.up.now left + slice_index w.up.now right)
+      + (slice_index w.down.now left + slice_index w.down.now right);
+  horizontal_far = slice_index w.here.now far_left + slice_index w.here.now far_right;
+  vertical_far = slice_index w.far_up.now c + slice_index w.far_down.now c;
 }
 
 -- the sums at column c, columns outside the plane being reflected
 abbrev pub around_at : ℕ → Window → ℕ → Around
 around_at reach w c =
-    around_by w (reflected w.cols (pos c -ℤ pos reach) - w.left) (reflected w.cols (pos c -ℤ pos 1) - w.left) (c - w.left) (reflected w.cols (pos (c + 1)) - w.left) (reflected w.cols (pos (c + reach)) - w.left)
+    around_by w (reflected w.cols (pos c -ℤ pos reach) - w.left) (reflected w.cols (pos c -ℤ pos 1) - w.left)
+    (c - w.left) (reflected w.cols (pos (c + 1)) - w.left) (reflected w.cols (pos (c + reach)) - w.left)
 
 -- the sample of a wanted colour at column c, where the even columns are sites of one kind and the odd ones of another
 abbrev pub row_sample : Kind → (even odd : Site) → Window → ℕ → ℕ → ℕ
@@ -62,7 +64,8 @@ HasColumns kind even odd w first xs from to = HasPixels (row_sample kind even od
 -- a row whose pixel k is written
 abbrev pub with_pixel : List ℕ → ℕ → List ℕ → List ℕ
 with_pixel xs k pixel =
-    slice_set (slice_set (slice_set xs (k * 3) (slice_index pixel 0)) (k * 3 + 1) (slice_index pixel 1)) (k * 3 + 2) (slice_index pixel 2)
+    slice_set (slice_set (slice_set xs (k * 3) (slice_index pixel 0)) (k * 3 + 1) (slice_index pixel 1)) (k * 3 + 2)
+    (slice_index pixel 2)
 
 -- the pixels below pixel k are the same
 abbrev pub SameBelow : List ℕ → List ℕ → ℕ → Type 0

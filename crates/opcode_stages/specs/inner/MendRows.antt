@@ -27,10 +27,6 @@ pub record IsNextBad (bad : ℕ → Bool) (from to next : ℕ) : Type 0 where
   pub good : (c : ℕ) → from ≤ c → c < next → bad c ≡ false
   pub found : next < to → bad next ≡ true
 
--- planes of one sample a pixel
-abbrev pub IsSingle : Shape → Type 0
-IsSingle input = input.planes ≡ 1
-
 -- the columns before one are mended, and the others are as they were
 pub record IsMendedTo (mended was : ℕ → ℕ) (left right upto : ℕ) (row : List ℕ) : Type 0 where
   pub done : (k : ℕ) → left ≤ k → k < upto → slice_index row (k - left) ≡ mended k

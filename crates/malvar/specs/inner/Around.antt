@@ -11,18 +11,19 @@ use Rattle.malvar.specs.declared.filters.RowSites.TheVariants.{RedGreen, GreenRe
 -- each sum is one of so many samples of 16 bits
 pub record IsAround (a : Around) : Type 0 where
   pub centre : a.centre ≤ 65535
-  pub beside : a.beside ≤ 131070
-  pub upright : a.upright ≤ 131070
+  pub horizontal : a.horizontal ≤ 131070
+  pub vertical : a.vertical ≤ 131070
   pub diagonal : a.diagonal ≤ 262140
-  pub beside_far : a.beside_far ≤ 131070
-  pub upright_far : a.upright_far ≤ 131070
+  pub horizontal_far : a.horizontal_far ≤ 131070
+  pub vertical_far : a.vertical_far ≤ 131070
 
 -- the weighted sum, in sixteenths
 abbrev pub weighted : Weights → Around → ℤ
 weighted w a =
-    w.centre *ℤ pos a.centre +ℤ w.beside *ℤ pos a.beside +ℤ w.upright *ℤ pos a.upright +ℤ w.diagonal *ℤ pos a.diagonal +ℤ w.beside_2 *ℤ pos a.beside_far +ℤ w.upright_2 *ℤ pos a.upright_far
+    w.centre *ℤ pos a.centre +ℤ w.horizontal *ℤ pos a.horizontal +ℤ w.vertical *ℤ pos a.vertical
+    +ℤ w.diagonal *ℤ pos a.diagonal +ℤ w.horizontal_2 *ℤ pos a.horizontal_far +ℤ w.vertical_2 *ℤ pos a.vertical_far
 
--- the weights for a wanted colour at a pixel of another colour, by its own colour and that of its neighbour to the right
+-- the weights for a wanted colour at a pixel of another colour, by its own colour and that of its right neighbour
 abbrev pub weights_by : Table → ℕ → ℕ → ℕ → Weights
 weights_by table own right wanted =
     if nat_eq wanted 1 then table.green
@@ -77,14 +78,16 @@ site_at even odd c = if nat_eq (c % 2) 0 then even else odd
 abbrev pub around_in : (ℕ → ℕ → ℕ → ℕ) → (far_up up r down far_down far_left left c right far_right : ℕ) → Around
 around_in at far_up up r down far_down far_left left c right far_right = record {
   centre = at r c 0;
-  beside = at r left 0 + at r right 0;
-  upright = at up c 0 + at down c 0;
+  horizontal = at r left 0 + at r right 0;
+  vertical = at up c 0 + at down c 0;
   diagonal = (at up left 0 + at up right 0) + (at down left 0 + at down right 0);
-  beside_far = at r far_left 0 + at r far_right 0;
-  upright_far = at far_up c 0 + at far_down c 0;
+  horizontal_far = at r far_left 0 + at r far_right 0;
+  vertical_far = at far_up c 0 + at far_down c 0;
 }
 
 -- the sums at row r, column c of a plane of these rows and columns, as far away as the filters reach
 abbrev pub around_of : (reach rows cols : ℕ) → (ℕ → ℕ → ℕ → ℕ) → ℕ → ℕ → Around
 around_of reach rows cols at r c =
-    around_in at (reflected rows (pos r -ℤ pos reach)) (reflected rows (pos r -ℤ pos 1)) r (reflected rows (pos (r + 1))) (reflected rows (pos (r + reach))) (reflected cols (pos c -ℤ pos reach)) (reflected cols (pos c -ℤ pos 1)) c (reflected cols (pos (c + 1))) (reflected cols (pos (c + reach)))
+    around_in at (reflected rows (pos r -ℤ pos reach)) (reflected rows (pos r -ℤ pos 1)) r
+    (reflected rows (pos (r + 1))) (reflected rows (pos (r + reach))) (reflected cols (pos c -ℤ pos reach))
+    (reflected cols (pos c -ℤ pos 1)) c (reflected cols (pos (c + 1))) (reflected cols (pos (c + reach)))

@@ -2,7 +2,7 @@
 use Rattle.std.specs.Prelude.{ℕ, ◌==◌, Bool}
 use Rattle.std.specs.List.{list_any}
 use Rattle.opcode_stages.specs.declared.places.Places.{Places}
-use Rattle.opcode_stages.specs.Places.{place_of}
+use Rattle.opcode_stages.specs.inner.Places.{place_of}
 
 -- whether the pixel at row r, column c is one of the points
 abbrev pub has_place : Places → ℕ → ℕ → Bool

@@ -1,5 +1,6 @@
 -- Rows of pixels that a matrix maps, the three planes of a pixel side by side: this project's own.
-use Rattle.std.specs.Prelude.{◌≡◌, ℕ, zero, suc, ◌+◌, ◌*◌, ◌<◌, ◌≤◌, ℤ, pos, ◌+ℤ◌, ◌-ℤ◌, ◌*ℤ◌, List, slice_index, slice_index_or, slice_set}
+use Rattle.std.specs.Prelude.{◌≡◌, ℕ, zero, suc, ◌+◌, ◌*◌, ◌<◌, ◌≤◌, ℤ, pos, ◌+ℤ◌, ◌-ℤ◌, ◌*ℤ◌, List, slice_index}
+use Rattle.std.specs.Prelude.{slice_index_or, slice_set}
 use Rattle.colour_matrix.specs.declared.matrix_rows.Raised.{Raised}
 use Rattle.colour_matrix.specs.declared.matrix_rows.Row.{Row}
 use Rattle.colour_matrix.specs.declared.matrix_rows.Rows.{Rows}
@@ -49,7 +50,9 @@ HaveDigits rows = (i : ℕ) → i < 3 → AreDigits (row_at rows i)
 -- the first n pixels of a row are those of a matrix times a row
 abbrev pub HasMatrixed : List ℤ → (from out : List ℕ) → ℕ → Type 0
 HasMatrixed c from out n =
-    (k p : ℕ) → k < n → p < 3 → slice_index out (k * 3 + p) ≡ matrixed_value c p (slice_index from (k * 3)) (slice_index from (k * 3 + 1)) (slice_index from (k * 3 + 2))
+    (k p : ℕ) → k < n → p < 3
+    → slice_index out (k * 3 + p)
+    ≡ matrixed_value c p (slice_index from (k * 3)) (slice_index from (k * 3 + 1)) (slice_index from (k * 3 + 2))
 
 -- a row whose pixel k is written
 abbrev pub with_pixel : List ℕ → ℕ → (red green blue : ℕ) → List ℕ
@@ -58,4 +61,5 @@ with_pixel xs k red green blue = slice_set (slice_set (slice_set xs (k * 3) red)
 -- a row in 10000ths times column j of a forward matrix, rounded to the nearest number, a half up
 abbrev pub product_with : (row f : List ℤ) → ℕ → ℤ
 product_with row f j =
-    int_div_euclid (slice_index_or row 0 (pos 0) *ℤ entry_at f 0 j +ℤ slice_index_or row 1 (pos 0) *ℤ entry_at f 1 j +ℤ slice_index_or row 2 (pos 0) *ℤ entry_at f 2 j +ℤ pos 5000) (pos 10000)
+    int_div_euclid (slice_index_or row 0 (pos 0) *ℤ entry_at f 0 j +ℤ slice_index_or row 1 (pos 0) *ℤ entry_at f 1 j
+    +ℤ slice_index_or row 2 (pos 0) *ℤ entry_at f 2 j +ℤ pos 5000) (pos 10000)

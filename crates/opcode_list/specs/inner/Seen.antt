@@ -1,4 +1,4 @@
--- How contracts see an opcode that is cut from the bytes.
+-- How contracts see an opcode that is cut from the bytes: this project's own.
 use Rattle.opcode_list.specs.Cuts as cuts
 use Rattle.opcode_list.specs.declared.list.RawOpcode.{RawOpcode}
 

@@ -1,4 +1,4 @@
--- Rows of linear values, which only private contracts cite. This is this project's own.
+-- Rows of linear values: this project's own.
 use Rattle.std.specs.Prelude.{◌≡◌, ℕ, ◌+◌, ◌<◌, ℤ, pos, ◌+ℤ◌, List, length, slice_index, slice_index_or}
 use Rattle.linearise.specs.Linear.{by_table, linear_at}
 
@@ -10,5 +10,6 @@ pub record IsTabled (table samples xs : List ℕ) : Type 0 where
 -- the samples before a limit have become linear values, over the levels of their columns and what the row adds, and the
 -- others stay
 pub record IsLinearTo (span : ℕ) (across : List ℤ) (down : ℤ) (old new : List ℕ) (limit : ℕ) : Type 0 where
-  pub done : (k : ℕ) → k < limit → slice_index new k ≡ linear_at (pos span) (slice_index_or across k (pos 0) +ℤ down) (slice_index old k)
+  pub done : (k : ℕ) → k < limit → slice_index new k ≡ linear_at (pos span) (slice_index_or across k (pos 0) +ℤ down)
+      (slice_index old k)
   pub left : (k : ℕ) → limit < k + 1 → slice_index new k ≡ slice_index old k

@@ -2,7 +2,7 @@
 use Rattle.colour_matrix.specs.declared.factors.Factors.{Factors}
 use Rattle.colour_matrix.specs.declared.factors.Factors.TheVariants.{Gains, Digits}
 use Rattle.colour_matrix.specs.Balances.{Balancing}
-use Rattle.colour_matrix.specs.BalanceRows.{HasShort, HasFactors}
+use Rattle.colour_matrix.specs.inner.BalanceRows.{HasShort, HasFactors}
 
 -- the factors are those of gains and an exposure
 abbrev pub AreFactors : Balancing → Factors → Type 0

@@ -1,4 +1,4 @@
--- Words for multiplying in place of dividing, which only private contracts cite. This is this project's own.
+-- Multiplying in place of dividing: this project's own.
 use Rattle.std.specs.Prelude.{◌≡◌, ℕ, ◌+◌, ◌*◌, ◌/◌, ◌^◌, ◌<◌, ◌≤◌, min, ℤ, pos, negsuc}
 
 -- a whole number from 65535 * 2 * half / span up to one more; the scale takes the next greater one

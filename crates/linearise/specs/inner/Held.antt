@@ -1,4 +1,4 @@
--- The black levels that a stage holds. This is this project's own.
+-- The black levels that a stage holds: this project's own.
 use Rattle.std.specs.Prelude.{◌≡◌, ℕ, ◌<◌, ℤ, List}
 use Rattle.linearise.specs.Blacks.{area_of, black_by}
 use Rattle.linearise.specs.declared.blacks.Blacks.{Blacks}

@@ -1,7 +1,9 @@
 -- The places of pixels, row by row, among rows of 2^32 pixels: this project's own.
-use Rattle.std.specs.Prelude.{◌≡◌, ℕ, ◌+◌, ◌*◌, ◌^◌, ◌<◌, ◌≤◌, ◌==◌, ◌⊎◌, true, List, length, slice_index, Option, Some, None}
+use Rattle.std.specs.Prelude.{◌≡◌, ℕ, ◌+◌, ◌*◌, ◌^◌, ◌<◌, ◌≤◌, ◌==◌, ◌⊎◌, true, List, length, slice_index, Option, Some}
+use Rattle.std.specs.Prelude.{None}
 use Rattle.std.specs.List.{list_any}
 
+-- the place of the pixel at row r, column c
 abbrev pub place_of : ℕ → ℕ → ℕ
 place_of r c = r * 2 ^ 32 + c
 

@@ -1,4 +1,4 @@
--- Tables that are filled from the front: this project's own.
+-- Tables and rows that are filled from left to right: this project's own.
 use Rattle.std.specs.Prelude.{◌≡◌, ℕ, ◌<◌, ◌≤◌, List, [], ◌∷◌, Bool, true, slice_index}
 use Rattle.tone_table.specs.Knots.{rise_to}
 

@@ -1,0 +1,5 @@
+-- Words for the contracts between functions of this crate.
+pub mod Rows
+pub mod Scales
+pub mod Held
+pub mod Seen
