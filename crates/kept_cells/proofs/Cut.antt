@@ -1,15 +1,32 @@
--- What was copied of a part into a rectangle of it.
-use Rattle.std.proofs.Common.{◌≡◌, ℕ, ◌*◌, List, length, sym, ◌∙◌, ap, arith}
+-- The samples of a rectangle of a part, row by row.
+use Rattle.std.proofs.Common.{◌≡◌, ℕ, ◌+◌, ◌-◌, ◌*◌, ◌≤◌, List, [], ◌++◌, get_or, refl, sym, ◌∙◌, ap, arith}
 use Rattle.plane_view.specs.declared.Rect.{Rect}
-use Rattle.plane_view.specs.Rectangles.{LiesIn, area_of}
-use Rattle.plane_view.specs.Lent.{Lent, lent_of, part_of, sample_at}
-use Rattle.plane_view.specs.Tiles.{CopiesFrom}
-use Rattle.plane_view.proofs.Agreement.{part_of_function}
+use Rattle.plane_view.specs.Plane.{samples_of}
+use Rattle.plane_view.specs.Rectangles.{width}
+use Rattle.plane_view.specs.Lent.{IsRun, Lent, sample_at}
+use Rattle.plane_view.proofs.Crops.{samples_of_more}
 
-pub copied_part : (V : Lent) (rect : Rect) (planes : ℕ) (old new : List ℕ) → length new ≡ area_of rect * planes → V.planes ≡ planes → LiesIn rect V.rect
-    → CopiesFrom (record { rect = rect; planes = planes; samples = old }) (record { rect = rect; planes = planes; samples = new }) V rect → new ≡ (part_of V rect).samples
-copied_part V rect planes old new long same inside copies =
-    ap (λ (L : Lent). L.samples)
-    (part_of_function (sample_at V) (record { rect = rect; planes = planes; samples = new }) long
-    (record { samples = λ r c p pixel plane. copies.copied r c p pixel (record { top = omega (arith, inside.top, pixel.top); bottom = omega (arith, inside.bottom, pixel.bottom); left = omega (arith, inside.left, pixel.left); right = omega (arith, inside.right, pixel.right) }) plane }))
-    ∙ ap (λ (n : ℕ). (lent_of rect n (sample_at V)).samples) (sym same)
+-- the first rows of the rectangle
+abbrev pub rows_of : Lent → Rect → ℕ → List ℕ
+rows_of V rect k = samples_of k (width rect) V.planes (λ r c p. sample_at V (rect.top + r) (rect.left + c) p)
+
+pub no_samples : (rows cols planes : ℕ) (f : ℕ → ℕ → ℕ → ℕ) → rows * cols * planes ≡ 0
+    → samples_of rows cols planes f ≡ []
+unfolding samples_of
+no_samples rows cols planes f none = rw none refl
+
+-- one row more
+pub rows_more : (V : Lent) (rect : Rect) (row : ℕ) (run : List ℕ) → rect.top ≤ row → rect.left ≤ rect.right
+    → IsRun run V row rect.left rect.right
+    → rows_of V rect (row + 1 - rect.top) ≡ rows_of V rect (row - rect.top) ++ run
+rows_more V rect row run below order is =
+    let next : row + 1 - rect.top ≡ row - rect.top + 1 = omega arith in
+    ap (rows_of V rect) next
+    ∙ samples_of_more (row - rect.top) (width rect) V.planes (λ r c p. sample_at V (rect.top + r) (rect.left + c) p)
+    run is.long
+    (λ c p col plane.
+    let back : rect.left + c - rect.left ≡ c = omega arith in
+    let here : row ≡ rect.top + (row - rect.top) = omega arith in
+    ap (λ n. get_or run (n * V.planes + p) 0) (sym back)
+    ∙ is.samples (rect.left + c) p (omega arith) (omega arith) plane
+    ∙ ap (λ r. sample_at V r (rect.left + c) p) here)

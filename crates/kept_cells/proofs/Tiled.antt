@@ -1,11 +1,13 @@
 -- What a look-up and a put do to the cells that are held and to the list of keys.
-use Rattle.std.proofs.Common.{◌≡◌, ◌∙◌, ◌==◌, ◌&&◌, ℕ, zero, suc, Bool, true, false, cond, List, [], ◌∷◌, length, take, map, Option, Some, None, option_map, is_some, refl, sym, ap, subst, arith}
+use Rattle.std.proofs.Common.{◌≡◌, ◌∙◌, ◌==◌, ◌&&◌, ℕ, zero, suc, Bool, true, false, cond, List, [], ◌∷◌, length, take}
+use Rattle.std.proofs.Common.{map, Option, Some, None, option_map, is_some, refl, sym, ap, subst, arith, nat_le, get_or}
+use Rattle.std.proofs.Common.{◌≤◌, ◌<◌}
 use Rattle.std.specs.Option.{option_map_or}
 use Rattle.std.specs.Map.{lookup, lookup_entry, remove_entry}
 use Rattle.std.proofs.lemmas.Bool.{and_parts, eqb-true}
-use Rattle.std.proofs.Common.{nat_le, get_or}
 use Rattle.std.specs.Cmp.{nat_eq_equiv}
 use Rattle.lru.specs.LruCache.{promoted}
+use Rattle.lru.proofs.CallerLemmas.{Contains-lookup_entry}
 use Rattle.tile_cache.specs.Pairs.{Cache, Pair}
 use Rattle.tile_cache.specs.Cache.{same_key, size, after_get, after_put, after_drops}
 use Rattle.tile_cache.specs.Kept.{has_room, kept}
@@ -15,8 +17,7 @@ use Rattle.tile_cache.proofs.Kept.{dropped_until-take}
 use Rattle.kept_cells.specs.Held.{SameHeld, Takes}
 use Rattle.kept_cells.specs.Kept.{Kept, key_at, brought}
 use Rattle.kept_cells.specs.Tiling.{kept_in, held_in}
-use Rattle.kept_cells.specs.Keys.{KeysUpTo}
-use Rattle.std.proofs.Common.{◌≤◌, ◌<◌}
+use Rattle.kept_cells.specs.inner.Keys.{KeysUpTo}
 use Rattle.std.proofs.lemmas.List.Elements.{All-cons, All-head, All-tail, All-take}
 
 -- a key with the size of its cell
@@ -44,26 +45,33 @@ same_self k = rw (eq_self k.stage, eq_self k.cell, eq_self k.stamp) refl
 
 -- ---- bringing to the front
 
-lookup_entry-items : (test : Key → Bool) (ps : List Pair) → lookup_entry test (map item_of ps) ≡ option_map item_of (lookup_entry test ps)
+lookup_entry-items : (test : Key → Bool) (ps : List Pair) → lookup_entry test (map item_of ps)
+    ≡ option_map item_of (lookup_entry test ps)
 lookup_entry-items test [] = refl
 lookup_entry-items test (e ∷ es) = go (test e.0) (lookup_entry-items test es)
   where
     go : (b : Bool) → lookup_entry test (map item_of es) ≡ option_map item_of (lookup_entry test es)
-        → cond b (Some (item_of e)) (lookup_entry test (map item_of es)) ≡ option_map item_of (cond b (Some e) (lookup_entry test es))
+        → cond b (Some (item_of e)) (lookup_entry test (map item_of es))
+        ≡ option_map item_of (cond b (Some e) (lookup_entry test es))
     go true h = refl
     go false h = h
 
-remove_entry-items : (test : Key → Bool) (ps : List Pair) → remove_entry test (map item_of ps) ≡ map item_of (remove_entry test ps)
+remove_entry-items : (test : Key → Bool) (ps : List Pair) → remove_entry test (map item_of ps)
+    ≡ map item_of (remove_entry test ps)
 remove_entry-items test [] = refl
 remove_entry-items test (e ∷ es) = go (test e.0) (remove_entry-items test es)
   where
     go : (b : Bool) → remove_entry test (map item_of es) ≡ map item_of (remove_entry test es)
-        → cond b (map item_of es) (item_of e ∷ remove_entry test (map item_of es)) ≡ map item_of (cond b es (e ∷ remove_entry test es))
+        → cond b (map item_of es) (item_of e ∷ remove_entry test (map item_of es))
+        ≡ map item_of (cond b es (e ∷ remove_entry test es))
     go true h = refl
     go false h = ap (λ ps. item_of e ∷ ps) h
 
-pub promoted-items : (test : Key → Bool) (ps : List Pair) → map item_of (promoted test ps) ≡ promoted test (map item_of ps)
-promoted-items test es = go (lookup_entry test es) ∙ ap (λ (o : Option (Key × ℕ)). option_map_or (λ p. p ∷ remove_entry test (map item_of es)) o (map item_of es)) (sym (lookup_entry-items test es))
+pub promoted-items : (test : Key → Bool) (ps : List Pair) → map item_of (promoted test ps)
+    ≡ promoted test (map item_of ps)
+promoted-items test es = go (lookup_entry test es)
+    ∙ ap (λ (o : Option (Key × ℕ)). option_map_or (λ p. p ∷ remove_entry test (map item_of es)) o (map item_of es))
+    (sym (lookup_entry-items test es))
   where
     go : (o : Option Pair) → map item_of (option_map_or (λ e. e ∷ remove_entry test es) o es)
         ≡ option_map_or (λ p. p ∷ remove_entry test (map item_of es)) (option_map item_of o) (map item_of es)
@@ -79,82 +87,102 @@ none_entry test (e ∷ es) h = (elim (test e.0) as (λ b. test e.0 ≡ b → loo
 ]) refl
 
 pub promoted_none : (test : Key → Bool) (ps : List Pair) → is_some (lookup test ps) ≡ false → promoted test ps ≡ ps
-promoted_none test ps h = ap (λ (o : Option Pair). option_map_or (λ e. e ∷ remove_entry test ps) o ps) (none_entry test ps h)
+promoted_none test ps h = ap (λ (o : Option Pair). option_map_or (λ e. e ∷ remove_entry test ps) o ps)
+    (none_entry test ps h)
 
-found_test : (test : Key → Bool) (ps : List Pair) (e : Pair) → lookup_entry test ps ≡ Some e → test e.0 ≡ true
-found_test test [] e h = cc
-found_test test (x ∷ es) e h = (elim (test x.0) as (λ b. test x.0 ≡ b → test e.0 ≡ true) [
-  | true ↦ λ t. let h' = rw t at h in let same : x ≡ e = cc in ap (λ y. test y.0) (sym same) ∙ t
-  | false ↦ λ t. found_test test es e (rw t at h)
-]) refl
-
-lookup_removed : (test other : Key → Bool) → ((k : Key) → test k ≡ true → other k ≡ false) → (ps : List Pair) → lookup other (remove_entry test ps) ≡ lookup other ps
+lookup_removed : (test other : Key → Bool) → ((k : Key) → test k ≡ true → other k ≡ false) → (ps : List Pair)
+    → lookup other (remove_entry test ps) ≡ lookup other ps
 lookup_removed test other apart [] = refl
-lookup_removed test other apart (e ∷ es) = (elim (test e.0) as (λ b. test e.0 ≡ b → lookup other (remove_entry test (e ∷ es)) ≡ lookup other (e ∷ es)) [
-  | true ↦ λ t. rw (t, apart e.0 t) refl
-  | false ↦ λ t. let on = lookup_removed test other apart es in rw (t, on) refl
-]) refl
+lookup_removed test other apart (e ∷ es) =
+    (elim (test e.0) as (λ b. test e.0 ≡ b → lookup other (remove_entry test (e ∷ es)) ≡ lookup other (e ∷ es)) [
+      | true ↦ λ t. rw (t, apart e.0 t) refl
+      | false ↦ λ t. let on = lookup_removed test other apart es in rw (t, on) refl
+    ]) refl
 
 -- each key finds the same once a pair is in front
-pub lookup_other : (a b : Key) (ps : List Pair) → lookup (same_key b) (promoted (same_key a) ps) ≡ lookup (same_key b) ps
-lookup_other a b ps = (elim (same_key b a) as (λ x. same_key b a ≡ x → lookup (same_key b) (promoted (same_key a) ps) ≡ lookup (same_key b) ps) [
-  | true ↦ λ t. let same : b ≡ a = same_is b a t in subst (λ (k : Key). lookup (same_key k) (promoted (same_key a) ps) ≡ lookup (same_key k) ps) (sym same) (lookup-promoted (same_key a) ps)
-  | false ↦ λ t. go t (lookup_entry (same_key a) ps) refl
-]) refl
+pub lookup_other : (a b : Key) (ps : List Pair) → lookup (same_key b) (promoted (same_key a) ps)
+    ≡ lookup (same_key b) ps
+lookup_other a b ps = (elim (same_key b a) as (λ x. same_key b a ≡ x → lookup (same_key b) (promoted (same_key a) ps)
+    ≡ lookup (same_key b) ps) [
+      | true ↦ λ t. let same : b ≡ a = same_is b a t in
+          subst (λ (k : Key). lookup (same_key k) (promoted (same_key a) ps) ≡ lookup (same_key k) ps) (sym same)
+          (lookup-promoted (same_key a) ps)
+      | false ↦ λ t. go t (lookup_entry (same_key a) ps) refl
+    ]) refl
   where
-    go : same_key b a ≡ false → (o : Option Pair) → lookup_entry (same_key a) ps ≡ o → lookup (same_key b) (option_map_or (λ e. e ∷ remove_entry (same_key a) ps) o ps) ≡ lookup (same_key b) ps
+    go : same_key b a ≡ false → (o : Option Pair) → lookup_entry (same_key a) ps ≡ o
+        → lookup (same_key b) (option_map_or (λ e. e ∷ remove_entry (same_key a) ps) o ps) ≡ lookup (same_key b) ps
     go t None h = refl
     go t (Some e) h =
-        let is : a ≡ e.0 = same_is a e.0 (found_test (same_key a) ps e h) in
+        let is : a ≡ e.0 = same_is a e.0 (Contains-lookup_entry (same_key a) ps e h).1 in
         let away : same_key b e.0 ≡ false = ap (same_key b) (sym is) ∙ t in
         rw away (lookup_removed (same_key a) (same_key b) (λ k s. ap (same_key b) (sym (same_is a k s)) ∙ t) ps)
 
 -- ---- taking the last ones off
 
-lookup_take : (test : Key → Bool) (n : ℕ) (ps : List Pair) → is_some (lookup test (take n ps)) ≡ true → lookup test (take n ps) ≡ lookup test ps
+lookup_take : (test : Key → Bool) (n : ℕ) (ps : List Pair) → is_some (lookup test (take n ps)) ≡ true
+    → lookup test (take n ps) ≡ lookup test ps
 lookup_take test zero ps h = cc
 lookup_take test (suc n) [] h = refl
-lookup_take test (suc n) (e ∷ es) h = (elim (test e.0) as (λ b. test e.0 ≡ b → lookup test (take (suc n) (e ∷ es)) ≡ lookup test (e ∷ es)) [
-  | true ↦ λ t. rw t refl
-  | false ↦ λ t. rw t (lookup_take test n es (rw t at h))
-]) refl
+lookup_take test (suc n) (e ∷ es) h =
+    (elim (test e.0) as (λ b. test e.0 ≡ b → lookup test (take (suc n) (e ∷ es)) ≡ lookup test (e ∷ es)) [
+      | true ↦ λ t. rw t refl
+      | false ↦ λ t. rw t (lookup_take test n es (rw t at h))
+    ]) refl
 
 -- ---- what a look-up leaves
 
-pub found_held : (a b : Cache) (s : List ℕ) (plane cell : ℕ) → b ≡ after_get (key_at (kept_in a s) plane cell) a → SameHeld (held_in a s) (held_in b s)
+pub found_held : (a b : Cache) (s : List ℕ) (plane cell : ℕ) → b ≡ after_get (key_at (kept_in a s) plane cell) a
+    → SameHeld (held_in a s) (held_in b s)
 found_held a b s plane cell is =
-    let look : (p k : ℕ) → lookup (same_key (key_at (kept_in a s) p k)) b.pairs ≡ lookup (same_key (key_at (kept_in a s) p k)) a.pairs = λ p k.
+    let look : (p k : ℕ) → lookup (same_key (key_at (kept_in a s) p k)) b.pairs
+    ≡ lookup (same_key (key_at (kept_in a s) p k)) a.pairs = λ p k.
     ap (λ (c : Cache). lookup (same_key (key_at (kept_in a s) p k)) c.pairs) is
     ∙ lookup_other (key_at (kept_in a s) plane cell) (key_at (kept_in a s) p k) a.pairs in
-    record { holds = λ p k. ap is_some (look p k); samples = λ p k. ap (λ (o : Option (List ℕ)). option_map_or (λ xs. xs) o []) (look p k) }
+    record {
+      holds = λ p k. ap is_some (look p k);
+      samples = λ p k. ap (λ (o : Option (List ℕ)). option_map_or (λ xs. xs) o []) (look p k);
+    }
 
 abbrev made : List (Key × ℕ) → List ℕ → ℕ → ℕ → Kept
-made items stamps slots budget = record { items = items; stamps = λ p. get_or stamps p 0; slots = slots; budget = budget }
+made items stamps slots budget = record {
+  items = items;
+  stamps = λ p. get_or stamps p 0;
+  slots = slots;
+  budget = budget;
+}
 
-pub found_kept : (a b : Cache) (s : List ℕ) (plane cell : ℕ) → b ≡ after_get (key_at (kept_in a s) plane cell) a → kept_in b s ≡ brought (kept_in a s) plane cell
+pub found_kept : (a b : Cache) (s : List ℕ) (plane cell : ℕ) → b ≡ after_get (key_at (kept_in a s) plane cell) a
+    → kept_in b s ≡ brought (kept_in a s) plane cell
 found_kept a b s plane cell is =
     ap (λ (c : Cache). kept_in c s) is
     ∙ ap (λ items. made items s a.slots a.budget) (promoted-items (same_key (key_at (kept_in a s) plane cell)) a.pairs)
 
-pub unfound_kept : (a b : Cache) (s : List ℕ) (plane cell : ℕ) → b ≡ after_get (key_at (kept_in a s) plane cell) a → (held_in a s).holds plane cell ≡ false → kept_in b s ≡ kept_in a s
+pub unfound_kept : (a b : Cache) (s : List ℕ) (plane cell : ℕ) → b ≡ after_get (key_at (kept_in a s) plane cell) a
+    → (held_in a s).holds plane cell ≡ false → kept_in b s ≡ kept_in a s
 unfound_kept a b s plane cell is absent =
     ap (λ (c : Cache). kept_in c s) is
-    ∙ ap (λ (ps : List Pair). made (map item_of ps) s a.slots a.budget) (promoted_none (same_key (key_at (kept_in a s) plane cell)) a.pairs absent)
+    ∙ ap (λ (ps : List Pair). made (map item_of ps) s a.slots a.budget)
+    (promoted_none (same_key (key_at (kept_in a s) plane cell)) a.pairs absent)
 
 -- ---- what a put leaves
 
 -- a list in which only one key may be new
 record Fewer (old new : List Pair) (key : Key) (xs : List ℕ) : Type 0 where
   this : is_some (lookup (same_key key) new) ≡ true → lookup (same_key key) new ≡ Some xs
-  others : (k : Key) → (k ≡ key → ⊥) → is_some (lookup (same_key k) new) ≡ true → lookup (same_key k) new ≡ lookup (same_key k) old
+  others : (k : Key) → (k ≡ key → ⊥) → is_some (lookup (same_key k) new) ≡ true
+      → lookup (same_key k) new ≡ lookup (same_key k) old
 
-takes_fewer : (a b : Cache) (s : List ℕ) (plane cell : ℕ) (xs : List ℕ) → Fewer a.pairs b.pairs (key_at (kept_in a s) plane cell) xs → Takes (held_in a s) (held_in b s) plane cell xs
+takes_fewer : (a b : Cache) (s : List ℕ) (plane cell : ℕ) (xs : List ℕ)
+    → Fewer a.pairs b.pairs (key_at (kept_in a s) plane cell) xs → Takes (held_in a s) (held_in b s) plane cell xs
 takes_fewer a b s plane cell xs fewer =
     record {
       this = λ now. ap (λ (o : Option (List ℕ)). option_map_or (λ ys. ys) o []) (fewer.this now);
       others = λ p k apart now.
-          let was : lookup (same_key (key_at (kept_in a s) p k)) b.pairs ≡ lookup (same_key (key_at (kept_in a s) p k)) a.pairs =
-          fewer.others (key_at (kept_in a s) p k) (λ e. apart (ap (λ (key : Key). key.stage) e) (ap (λ (key : Key). key.cell) e)) now in
+          let was : lookup (same_key (key_at (kept_in a s) p k)) b.pairs ≡ lookup (same_key (key_at (kept_in a s) p k))
+          a.pairs =
+          fewer.others (key_at (kept_in a s) p k)
+          (λ e. apart (ap (λ (key : Key). key.stage) e) (ap (λ (key : Key). key.cell) e)) now in
           (sym (ap is_some was) ∙ now, ap (λ (o : Option (List ℕ)). option_map_or (λ ys. ys) o []) was);
     }
 
@@ -162,10 +190,12 @@ never : (o : Option (List ℕ)) (P : Type 0) → is_some o ≡ false → is_some
 never None P a b = cc
 never (Some x) P a b = cc
 
-fewer_take : (ps : List Pair) (m : ℕ) (key : Key) (xs : List ℕ) → is_some (lookup (same_key key) ps) ≡ false → Fewer ps (take m ps) key xs
+fewer_take : (ps : List Pair) (m : ℕ) (key : Key) (xs : List ℕ) → is_some (lookup (same_key key) ps) ≡ false
+    → Fewer ps (take m ps) key xs
 fewer_take ps m key xs absent =
     record {
-      this = λ now. never (lookup (same_key key) ps) _ absent (sym (ap is_some (lookup_take (same_key key) m ps now)) ∙ now);
+      this = λ now. never (lookup (same_key key) ps) _ absent (sym (ap is_some (lookup_take (same_key key) m ps now))
+          ∙ now);
       others = λ k apart now. lookup_take (same_key k) m ps now;
     }
 
@@ -173,23 +203,28 @@ fewer_put : (ps : List Pair) (m : ℕ) (key : Key) (xs : List ℕ) → Fewer ps 
 fewer_put ps m key xs =
     record {
       this = λ now. rw (same_self key) refl;
-      others = λ k apart now. (elim (same_key k key) as (λ b. same_key k key ≡ b → lookup (same_key k) ((key, xs) ∷ take m ps) ≡ lookup (same_key k) ps) [
-        | true ↦ λ t. absurd (apart (same_is k key t))
-        | false ↦ λ t. rw t (lookup_take (same_key k) m ps (rw t at now))
-      ]) refl;
+      others = λ k apart now. (elim (same_key k key) as (λ b. same_key k key ≡ b
+          → lookup (same_key k) ((key, xs) ∷ take m ps) ≡ lookup (same_key k) ps) [
+            | true ↦ λ t. absurd (apart (same_is k key t))
+            | false ↦ λ t. rw t (lookup_take (same_key k) m ps (rw t at now))
+          ]) refl;
     }
 
-pub refused_takes : (a b : Cache) (s : List ℕ) (plane cell n : ℕ) (xs : List ℕ) → (held_in a s).holds plane cell ≡ false → b ≡ after_drops n a → Takes (held_in a s) (held_in b s) plane cell xs
+pub refused_takes : (a b : Cache) (s : List ℕ) (plane cell n : ℕ) (xs : List ℕ) → (held_in a s).holds plane cell ≡ false
+    → b ≡ after_drops n a → Takes (held_in a s) (held_in b s) plane cell xs
 refused_takes a b s plane cell n xs absent is =
     let part = dropped_until-take (has_room size a.slots a.budget n) (length a.pairs) a.pairs in
     takes_fewer a b s plane cell xs
-    (subst (λ (ps : List Pair). Fewer a.pairs ps (key_at (kept_in a s) plane cell) xs) (sym (ap (λ (c : Cache). c.pairs) is ∙ part.1))
+    (subst (λ (ps : List Pair). Fewer a.pairs ps (key_at (kept_in a s) plane cell) xs)
+    (sym (ap (λ (c : Cache). c.pairs) is ∙ part.1))
     (fewer_take a.pairs part.0 (key_at (kept_in a s) plane cell) xs absent))
 
-pub stored_takes : (a b : Cache) (s : List ℕ) (plane cell : ℕ) (xs : List ℕ) → (held_in a s).holds plane cell ≡ false → b ≡ after_put (key_at (kept_in a s) plane cell) xs a → Takes (held_in a s) (held_in b s) plane cell xs
+pub stored_takes : (a b : Cache) (s : List ℕ) (plane cell : ℕ) (xs : List ℕ) → (held_in a s).holds plane cell ≡ false
+    → b ≡ after_put (key_at (kept_in a s) plane cell) xs a → Takes (held_in a s) (held_in b s) plane cell xs
 stored_takes a b s plane cell xs absent is =
     takes_fewer a b s plane cell xs
-    (subst (λ (ps : List Pair). Fewer a.pairs ps key xs) (sym (ap (λ (c : Cache). c.pairs) is)) (go (nat_le (length xs) a.budget)))
+    (subst (λ (ps : List Pair). Fewer a.pairs ps key xs) (sym (ap (λ (c : Cache). c.pairs) is))
+    (go (nat_le (length xs) a.budget)))
   where
     key : Key
     key = key_at (kept_in a s) plane cell
@@ -202,30 +237,36 @@ stored_takes a b s plane cell xs absent is =
 
 -- ---- stamps
 
-found_upto : (n : ℕ) (test : Key → Bool) (ps : List Pair) (e : Pair) → KeysUpTo n ps → lookup_entry test ps ≡ Some e → e.0.stamp ≤ n
+found_upto : (n : ℕ) (test : Key → Bool) (ps : List Pair) (e : Pair) → KeysUpTo n ps → lookup_entry test ps ≡ Some e
+    → e.0.stamp ≤ n
 found_upto n test [] e upto h = cc
 found_upto n test (x ∷ es) e upto h = (elim (test x.0) as (λ b. test x.0 ≡ b → e.0.stamp ≤ n) [
-  | true ↦ λ t. let h' = rw t at h in let same : x ≡ e = cc in subst (λ (y : Pair). y.0.stamp ≤ n) same (All-head (λ (y : Pair). y.0.stamp ≤ n) x es upto)
+  | true ↦ λ t. let h' = rw t at h in let same : x ≡ e = cc in
+      subst (λ (y : Pair). y.0.stamp ≤ n) same (All-head (λ (y : Pair). y.0.stamp ≤ n) x es upto)
   | false ↦ λ t. found_upto n test es e (All-tail (λ (y : Pair). y.0.stamp ≤ n) x es upto) (rw t at h)
 ]) refl
 
 removed_upto : (n : ℕ) (test : Key → Bool) (ps : List Pair) → KeysUpTo n ps → KeysUpTo n (remove_entry test ps)
 removed_upto n test [] upto = upto
-removed_upto n test (x ∷ es) upto = go (test x.0) (removed_upto n test es (All-tail (λ (y : Pair). y.0.stamp ≤ n) x es upto))
+removed_upto n test (x ∷ es) upto =
+    go (test x.0) (removed_upto n test es (All-tail (λ (y : Pair). y.0.stamp ≤ n) x es upto))
   where
     go : (b : Bool) → KeysUpTo n (remove_entry test es) → KeysUpTo n (cond b es (x ∷ remove_entry test es))
     go true rest = All-tail (λ (y : Pair). y.0.stamp ≤ n) x es upto
-    go false rest = All-cons (λ (y : Pair). y.0.stamp ≤ n) x (remove_entry test es) (All-head (λ (y : Pair). y.0.stamp ≤ n) x es upto) rest
+    go false rest = All-cons (λ (y : Pair). y.0.stamp ≤ n) x (remove_entry test es)
+        (All-head (λ (y : Pair). y.0.stamp ≤ n) x es upto) rest
 
 promoted_upto : (n : ℕ) (test : Key → Bool) (ps : List Pair) → KeysUpTo n ps → KeysUpTo n (promoted test ps)
 promoted_upto n test ps upto = go (lookup_entry test ps) refl
   where
     go : (o : Option Pair) → lookup_entry test ps ≡ o → KeysUpTo n (option_map_or (λ e. e ∷ remove_entry test ps) o ps)
     go None h = upto
-    go (Some e) h = All-cons (λ (y : Pair). y.0.stamp ≤ n) e (remove_entry test ps) (found_upto n test ps e upto h) (removed_upto n test ps upto)
+    go (Some e) h = All-cons (λ (y : Pair). y.0.stamp ≤ n) e (remove_entry test ps) (found_upto n test ps e upto h)
+        (removed_upto n test ps upto)
 
 pub found_keys : (a b : Cache) (n : ℕ) (key : Key) → KeysUpTo n a.pairs → b ≡ after_get key a → KeysUpTo n b.pairs
-found_keys a b n key upto is = subst (λ (ps : List Pair). KeysUpTo n ps) (sym (ap (λ (c : Cache). c.pairs) is)) (promoted_upto n (same_key key) a.pairs upto)
+found_keys a b n key upto is = subst (λ (ps : List Pair). KeysUpTo n ps) (sym (ap (λ (c : Cache). c.pairs) is))
+    (promoted_upto n (same_key key) a.pairs upto)
 
 kept_keys : (a : Cache) (n m : ℕ) → KeysUpTo n a.pairs → KeysUpTo n (kept size a.slots a.budget m a.pairs)
 kept_keys a n m upto =
@@ -233,19 +274,26 @@ kept_keys a n m upto =
     subst (λ (ps : List Pair). KeysUpTo n ps) (sym part.1) (All-take (λ (y : Pair). y.0.stamp ≤ n) part.0 a.pairs upto)
 
 pub refused_keys : (a b : Cache) (n m : ℕ) → KeysUpTo n a.pairs → b ≡ after_drops m a → KeysUpTo n b.pairs
-refused_keys a b n m upto is = subst (λ (ps : List Pair). KeysUpTo n ps) (sym (ap (λ (c : Cache). c.pairs) is)) (kept_keys a n m upto)
+refused_keys a b n m upto is = subst (λ (ps : List Pair). KeysUpTo n ps) (sym (ap (λ (c : Cache). c.pairs) is))
+    (kept_keys a n m upto)
 
-pub stored_keys : (a b : Cache) (n : ℕ) (key : Key) (xs : List ℕ) → KeysUpTo n a.pairs → key.stamp ≤ n → b ≡ after_put key xs a → KeysUpTo n b.pairs
-stored_keys a b n key xs upto present is = subst (λ (ps : List Pair). KeysUpTo n ps) (sym (ap (λ (c : Cache). c.pairs) is)) (go (nat_le (length xs) a.budget))
+pub stored_keys : (a b : Cache) (n : ℕ) (key : Key) (xs : List ℕ) → KeysUpTo n a.pairs → key.stamp ≤ n
+    → b ≡ after_put key xs a → KeysUpTo n b.pairs
+stored_keys a b n key xs upto present is =
+    subst (λ (ps : List Pair). KeysUpTo n ps) (sym (ap (λ (c : Cache). c.pairs) is)) (go (nat_le (length xs) a.budget))
   where
     go : (t : Bool) → KeysUpTo n (cond t ((key, xs) ∷ kept size a.slots a.budget (length xs) a.pairs) a.pairs)
-    go true = All-cons (λ (y : Pair). y.0.stamp ≤ n) (key, xs) (kept size a.slots a.budget (length xs) a.pairs) present (kept_keys a n (length xs) upto)
+    go true = All-cons (λ (y : Pair). y.0.stamp ≤ n) (key, xs) (kept size a.slots a.budget (length xs) a.pairs) present
+        (kept_keys a n (length xs) upto)
     go false = upto
 
 -- no key of a later stamp is there
-pub later_absent : (n : ℕ) (key : Key) (ps : List Pair) → KeysUpTo n ps → n < key.stamp → is_some (lookup (same_key key) ps) ≡ false
+pub later_absent : (n : ℕ) (key : Key) (ps : List Pair) → KeysUpTo n ps → n < key.stamp
+    → is_some (lookup (same_key key) ps) ≡ false
 later_absent n key [] upto later = refl
-later_absent n key (e ∷ es) upto later = (elim (same_key key e.0) as (λ b. same_key key e.0 ≡ b → is_some (lookup (same_key key) (e ∷ es)) ≡ false) [
-  | true ↦ λ t. let same = ap (λ (k : Key). k.stamp) (same_is key e.0 t) in let old = All-head (λ (y : Pair). y.0.stamp ≤ n) e es upto in absurd (omega (arith, same, old))
-  | false ↦ λ t. rw t (later_absent n key es (All-tail (λ (y : Pair). y.0.stamp ≤ n) e es upto) later)
-]) refl
+later_absent n key (e ∷ es) upto later =
+    (elim (same_key key e.0) as (λ b. same_key key e.0 ≡ b → is_some (lookup (same_key key) (e ∷ es)) ≡ false) [
+      | true ↦ λ t. let same = ap (λ (k : Key). k.stamp) (same_is key e.0 t) in let old =
+          All-head (λ (y : Pair). y.0.stamp ≤ n) e es upto in absurd (omega (arith, same, old))
+      | false ↦ λ t. rw t (later_absent n key es (All-tail (λ (y : Pair). y.0.stamp ≤ n) e es upto) later)
+    ]) refl

@@ -1,4 +1,4 @@
--- The list of the keys that a cache holds, and what a band of the last plane leaves of it.
+-- The list of the keys that a cache holds, and what a band of the last plane leaves of it. This is this project's own.
 use Rattle.std.specs.Prelude.{ℕ, ◌+◌, ◌*◌, List, [], ◌∷◌, Bool, is_some}
 use Rattle.std.specs.Map.{lookup}
 use Rattle.lru.specs.LruCache.{promoted}
@@ -67,16 +67,20 @@ abbrev pub put_above : {S : Type 0} → Held → (S → Shape → Rect → Rect)
 put_above held need c plane [] wanted = c
 put_above held need c plane (tier ∷ tiers) wanted =
     put_above held need
-    (put_each c (plane + 1) (size_of tier.cells tier.shape.planes) (missing held (plane + 1) (meeting tier.cells (wanted_below held need (plane + 1) tiers wanted))))
+    (put_each c (plane + 1) (size_of tier.cells tier.shape.planes)
+    (missing held (plane + 1) (meeting tier.cells (wanted_below held need (plane + 1) tiers wanted))))
     (plane + 1) tiers wanted
 
 -- at the base's plane: the fresh keys come to the front, and then the missing ones are put
 abbrev pub keep_base : Held → Kept → ℕ → List Rect → List Rect → Kept
 keep_base held c planes cells wanted =
-    put_each (brought_each c 0 (fresh held 0 (meeting cells wanted))) 0 (size_of cells planes) (missing held 0 (meeting cells wanted))
+    put_each (brought_each c 0 (fresh held 0 (meeting cells wanted))) 0 (size_of cells planes)
+    (missing held 0 (meeting cells wanted))
 
--- what a band leaves: the fresh needed keys come to the front from the last plane down to plane 0, then the missing ones are put from plane 0 up
-abbrev pub keep : {S : Type 0} → Held → (S → Shape → Rect → Rect) → Kept → ℕ → List Rect → List (Tier S) → List Rect → Kept
+-- what a band leaves: the fresh needed keys come to the front from the last plane down to plane 0, then the missing
+-- ones are put from plane 0 up
+abbrev pub keep : {S : Type 0}
+    → Held → (S → Shape → Rect → Rect) → Kept → ℕ → List Rect → List (Tier S) → List Rect → Kept
 keep held need c planes cells tiers wanted =
     put_above held need
     (keep_base held (brought_above held need c 0 tiers wanted) planes cells (wanted_below held need 0 tiers wanted))

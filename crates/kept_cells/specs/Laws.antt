@@ -1,4 +1,4 @@
--- The cells that are held are those whose keys are in the list.
+-- The cells that are held are those whose keys are in the list: a law that the trait of caches has.
 use Rattle.std.specs.Prelude.{◌≡◌, ℕ, Bool, List, length, Option, Some, None, option_map, is_some, refl}
 use Rattle.std.proofs.Common.{◌∙◌, sym, ap}
 use Rattle.std.specs.Map.{lookup}
@@ -14,7 +14,9 @@ is_some-map f None = refl
 is_some-map f (Some x) = refl
 
 is_some-items : (test : Key → Bool) (ps : List Pair) → is_some (lookup test (sizes ps)) ≡ is_some (lookup test ps)
-is_some-items test ps = ap is_some (lookup-map_values (λ (xs : List ℕ). length xs) test ps) ∙ is_some-map (λ (xs : List ℕ). length xs) (lookup test ps)
+is_some-items test ps = ap is_some (lookup-map_values (λ (xs : List ℕ). length xs) test ps)
+    ∙ is_some-map (λ (xs : List ℕ). length xs) (lookup test ps)
 
-pub holds_kept : (c : Cache) (stamps : List ℕ) (plane cell : ℕ) → (held_in c stamps).holds plane cell ≡ is_kept (kept_in c stamps) plane cell
+pub holds_kept : (c : Cache) (stamps : List ℕ) (plane cell : ℕ)
+    → (held_in c stamps).holds plane cell ≡ is_kept (kept_in c stamps) plane cell
 holds_kept c stamps plane cell = sym (is_some-items (same_key (key_at (kept_in c stamps) plane cell)) c.pairs)

@@ -1,7 +1,7 @@
 pub mod Held
-pub mod Keys
 pub mod Kept
 pub mod Laws
 pub mod Missing
 pub mod Tiers
 pub mod Tiling
+pub mod inner

@@ -1,4 +1,4 @@
--- The cells that a band of the last plane needs and that aren't held.
+-- The cells that a band of the last plane needs and that aren't held. This is this project's own.
 use Rattle.std.specs.Prelude.{ℕ, ◌+◌, List, [], ◌∷◌, length, map}
 use Rattle.plane_view.specs.declared.Rect.{Rect}
 use Rattle.plane_view.specs.declared.Shape.{Shape}
@@ -14,14 +14,18 @@ needs_of held need plane tier wanted =
 -- the rectangles that are wanted of the plane below the first tier, whose number is `plane`
 abbrev pub wanted_below : {S : Type 0} → Held → (S → Shape → Rect → Rect) → ℕ → List (Tier S) → List Rect → List Rect
 wanted_below held need plane [] wanted = wanted
-wanted_below held need plane (tier ∷ tiers) wanted = needs_of held need (plane + 1) tier (wanted_below held need (plane + 1) tiers wanted)
+wanted_below held need plane (tier ∷ tiers) wanted =
+    needs_of held need (plane + 1) tier (wanted_below held need (plane + 1) tiers wanted)
 
 -- how many cells of the planes above that one are missing
 abbrev pub count_of_runs : {S : Type 0} → Held → (S → Shape → Rect → Rect) → ℕ → List (Tier S) → List Rect → ℕ
 count_of_runs held need plane [] wanted = 0
 count_of_runs held need plane (tier ∷ tiers) wanted =
-    length (missing held (plane + 1) (meeting tier.cells (wanted_below held need (plane + 1) tiers wanted))) + count_of_runs held need (plane + 1) tiers wanted
+    length (missing held (plane + 1) (meeting tier.cells (wanted_below held need (plane + 1) tiers wanted)))
+    + count_of_runs held need (plane + 1) tiers wanted
 
 -- how many cells of the base are missing
-abbrev pub count_of_fetches : {S : Type 0} → Held → (S → Shape → Rect → Rect) → List Rect → List (Tier S) → List Rect → ℕ
-count_of_fetches held need cells tiers wanted = length (missing held 0 (meeting cells (wanted_below held need 0 tiers wanted)))
+abbrev pub count_of_fetches : {S : Type 0}
+    → Held → (S → Shape → Rect → Rect) → List Rect → List (Tier S) → List Rect → ℕ
+count_of_fetches held need cells tiers wanted =
+    length (missing held 0 (meeting cells (wanted_below held need 0 tiers wanted)))

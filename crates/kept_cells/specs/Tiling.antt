@@ -9,7 +9,12 @@ use Rattle.kept_cells.specs.Kept.{Kept, key_at}
 
 -- the keys with the sizes of their cells, under these present stamps
 abbrev pub kept_in : Cache → List ℕ → Kept
-kept_in c stamps = record { items = sizes c.pairs; stamps = λ plane. get_or stamps plane 0; slots = c.slots; budget = c.budget }
+kept_in c stamps = record {
+  items = sizes c.pairs;
+  stamps = λ plane. get_or stamps plane 0;
+  slots = c.slots;
+  budget = c.budget;
+}
 
 -- the cells at the present stamps
 abbrev pub held_in : Cache → List ℕ → Held

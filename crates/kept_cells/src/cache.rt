@@ -18,17 +18,19 @@ pub trait Cache: Drop {
     /// The keys of all cells in order.
     ghost kept: { Self → Kept };
 
-    /// The present stamps and the limits, which neither call changes, even where memory is short.
+    /// The present stamps and the limits, which neither call changes, even out of memory.
     ghost marks: { Self → Marks };
 
     /// Writes the samples of a cell that are in a tile, if the cell is held.
     fn find(&mut self, plane: u32, cell: u32, rect: Rect, out: &mut TileMut<'_>) -> bool
         requires plane { plane < length (marks self.old).stamps }
-        requires size { (held self.old).holds plane cell ≡ true → length ((held self.old).samples plane cell) ≡ area_of rect * (loan out.old).planes }
+        requires size { (held self.old).holds plane cell ≡ true → length ((held self.old).samples plane cell)
+            ≡ area_of rect * (loan out.old).planes }
         ensures found { result ≡ (held self.old).holds plane cell }
         ensures loan { SameLoan out.old out.new }
         ensures copies { result ≡ true → CopiesFrom (loan out.old) (loan out.new)
-            (record { rect = rect; planes = (loan out.old).planes; samples = (held self.old).samples plane cell }) (tile_rect out.old) }
+            (record { rect = rect; planes = (loan out.old).planes; samples = (held self.old).samples plane cell })
+            (tile_rect out.old) }
         ensures stays { result ≡ false → out.new ≡ out.old }
         ensures held { SameHeld (held self.old) (held self.new) }
         ensures brings { result ≡ true → kept self.new ≡ brought (kept self.old) plane cell }
@@ -40,7 +42,7 @@ pub trait Cache: Drop {
     ///
     /// # Errors
     ///
-    /// Where there is no memory.
+    /// Out of memory.
     fn put(
         &mut self,
         alloc: Global,
@@ -54,7 +56,8 @@ pub trait Cache: Drop {
         requires inside { LiesIn rect part.now.rect }
         requires small { area_of rect * part.now.planes < 2 ^ 32 }
         ensures takes { Takes (held self.old) (held self.new) plane cell (part_of part.now rect).samples }
-        ensures kept { OnOk result (kept self.new ≡ put_key (kept self.old) plane cell (area_of rect * part.now.planes)) }
+        ensures kept { OnOk result (kept self.new ≡ put_key (kept self.old) plane cell
+            (area_of rect * part.now.planes)) }
         ensures marks { marks self.new ≡ marks self.old };
 
     /// A cell is held where its key at the present stamp is.

@@ -48,9 +48,12 @@ impl Tiles {
         ensures stamps { self.new.stamps ≡ changed plane self.old.stamps }
         ensures cells { self.new.cells ≡ self.old.cells }
         ensures budget { self.new.budget ≡ self.old.budget }
-        ensures stale { (p k : ℕ) → plane ≤ p → p < length self.old.stamps.stamps → (held_in self.new.cells self.new.stamps.stamps).holds p k ≡ false }
-        ensures holds { (p k : ℕ) → p < plane → (held_in self.new.cells self.new.stamps.stamps).holds p k ≡ (held_in self.old.cells self.old.stamps.stamps).holds p k }
-        ensures samples { (p k : ℕ) → p < plane → (held_in self.new.cells self.new.stamps.stamps).samples p k ≡ (held_in self.old.cells self.old.stamps.stamps).samples p k }
+        ensures stale { (p k : ℕ) → plane ≤ p → p < length self.old.stamps.stamps
+            → (held_in self.new.cells self.new.stamps.stamps).holds p k ≡ false }
+        ensures holds { (p k : ℕ) → p < plane → (held_in self.new.cells self.new.stamps.stamps).holds p k
+            ≡ (held_in self.old.cells self.old.stamps.stamps).holds p k }
+        ensures samples { (p k : ℕ) → p < plane → (held_in self.new.cells self.new.stamps.stamps).samples p k
+            ≡ (held_in self.old.cells self.old.stamps.stamps).samples p k }
     {
         self.stamps.change(plane);
     }
@@ -72,7 +75,12 @@ impl Cache for Tiles {
 
     ghost kept = { λ t. kept_in t.cells t.stamps.stamps };
 
-    ghost marks = { λ t. record { stamps = t.stamps.stamps; changes = t.stamps.changes; slots = t.cells.slots; budget = t.cells.budget } };
+    ghost marks = { λ t. record {
+      stamps = t.stamps.stamps;
+      changes = t.stamps.changes;
+      slots = t.cells.slots;
+      budget = t.cells.budget;
+    } };
 
     ghost holds = { λ t. holds_kept t.cells t.stamps.stamps };
 

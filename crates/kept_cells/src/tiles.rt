@@ -3,7 +3,7 @@
 ghost use Rattle.std.specs.Prelude.{◌≡◌, ℕ, ◌+◌, ◌≤◌, ◌^◌, [], IfOk};
 ghost use Rattle.tile_cache.specs.Cache.{cache};
 ghost use Rattle.stage_deps.specs.Stamping.{begun};
-ghost use Rattle.kept_cells.specs.Keys.{KeysUpTo};
+ghost use Rattle.kept_cells.specs.inner.Keys.{KeysUpTo};
 
 use stage_deps::Stamps;
 use std::alloc::{AllocError, Global};
@@ -24,7 +24,7 @@ impl Tiles {
     ///
     /// # Errors
     ///
-    /// Where there is no memory.
+    /// Out of memory.
     pub fn new(alloc: Global, stages: u32, budget: u64) -> Result<Tiles, AllocError>
         requires { budget ≤ 2 ^ 30 }
         ensures cells { IfOk result (λ tiles. tiles.cells ≡ cache [] 65536 budget) }

@@ -21,7 +21,13 @@ one_cell s is = record {
     some = record { rows = is.some_rows; cols = is.some_cols };
     inside = record { top = omega arith; bottom = omega arith; left = omega arith; right = omega arith };
   });
-  covered = λ r c row col. rw (has_pixel-true r c (whole_rect s.rows s.cols) (record { top = omega arith; bottom = row; left = omega arith; right = col })) refl;
+  covered = λ r c row col. rw
+      (has_pixel-true r c (whole_rect s.rows s.cols) (record {
+        top = omega arith;
+        bottom = row;
+        left = omega arith;
+        right = col;
+      })) refl;
   apart = λ i k one other at_i at_k r c in_one in_other.
       let first = only (whole_rect s.rows s.cols) one i at_i in
       let second = only (whole_rect s.rows s.cols) other k at_k in

@@ -6,7 +6,8 @@ use Rattle.plane_view.specs.declared.Shape.{Shape}
 use Rattle.plane_view.specs.Rectangles.{LiesIn, area_of, height, whole_rect, width}
 use Rattle.plane_view.specs.Shapes.{IsShape}
 
-pub small_part : (rect : Rect) (s : Shape) → IsShape s → LiesIn rect (whole_rect s.rows s.cols) → area_of rect * s.planes < 2 ^ 32
+pub small_part : (rect : Rect) (s : Shape) → IsShape s → LiesIn rect (whole_rect s.rows s.cols)
+    → area_of rect * s.planes < 2 ^ 32
 small_part rect s is lies =
     let h : ℕ = height rect in
     let w : ℕ = width rect in

@@ -14,46 +14,62 @@ use Rattle.stage_deps.specs.Grids.{grid_cells}
 use Rattle.kept_cells.specs.Held.{AreRight, HasSizes, Held, IsRight, fresh, missing}
 use Rattle.kept_cells.specs.Kept.{Kept, brought_above, brought_each, keep, keep_base, put_above, put_each, size_of}
 use Rattle.kept_cells.specs.Missing.{count_of_fetches, count_of_runs, needs_of, wanted_below}
-use Rattle.kept_cells.specs.Tiers.{Tier, developed, tier_of, tiers_of}
-use Rattle.kept_cells.proofs.Lower.{sizes_from, top_kept}
+use Rattle.kept_cells.specs.Tiers.{Tier, tier_of, tiers_of}
+use Rattle.kept_cells.proofs.Lower.{developed, sizes_from, top_kept}
 use Rattle.region_session.specs.declared.layers.Layer.{Layer}
-use Rattle.region_session.specs.Layers.{AreLayers}
+use Rattle.region_session.specs.inner.Layers.{AreLayers}
 use Rattle.region_session.specs.Stacks.{last_shape}
 use Rattle.region_session.proofs.Top.{shape_top, top_of, whole_top}
 
 tiers_last : {S : Type 0} (shaped : S → Shape → Shape) (side : ℕ) (input : Shape) (stages : List S) (stage : S)
-    → tiers_of shaped side input (stages ++ stage ∷ []) ≡ tiers_of shaped side input stages ++ tier_of shaped side (last_shape shaped input stages) stage ∷ []
+    → tiers_of shaped side input (stages ++ stage ∷ []) ≡ tiers_of shaped side input stages
+    ++ tier_of shaped side (last_shape shaped input stages) stage ∷ []
 tiers_last shaped side input [] stage = refl
-tiers_last shaped side input (first ∷ stages) stage = ap (λ (tiers : List (Tier _)). tier_of shaped side input first ∷ tiers) (tiers_last shaped side (shaped first input) stages stage)
+tiers_last shaped side input (first ∷ stages) stage =
+    ap (λ (tiers : List (Tier _)). tier_of shaped side input first ∷ tiers)
+    (tiers_last shaped side (shaped first input) stages stage)
 
 -- there are as many tiers as stages
-pub tiers_length : {S : Type 0} (shaped : S → Shape → Shape) (side : ℕ) (input : Shape) (stages : List S) → length (tiers_of shaped side input stages) ≡ length stages
+pub tiers_length : {S : Type 0} (shaped : S → Shape → Shape) (side : ℕ) (input : Shape) (stages : List S)
+    → length (tiers_of shaped side input stages) ≡ length stages
 tiers_length shaped side input [] = refl
 tiers_length shaped side input (stage ∷ stages) =
     let rest = tiers_length shaped side (shaped stage input) stages in
     omega (arith, rest)
 
 -- what tiers develop is what their stages make
-pub developed_is : {S : Type 0} (shaped : S → Shape → Shape) (apply : S → Plane → Plane) (side : ℕ) (input : Shape) (stages : List S) (P : Plane) → developed apply (tiers_of shaped side input stages) P ≡ whole_of apply stages P
+pub developed_is : {S : Type 0} (shaped : S → Shape → Shape) (apply : S → Plane → Plane) (side : ℕ) (input : Shape)
+    (stages : List S) (P : Plane) → developed apply (tiers_of shaped side input stages) P ≡ whole_of apply stages P
 developed_is shaped apply side input [] P = refl
-developed_is shaped apply side input (stage ∷ stages) P = developed_is shaped apply side (shaped stage input) stages (apply stage P)
+developed_is shaped apply side input (stage ∷ stages) P = developed_is shaped apply side (shaped stage input) stages
+    (apply stage P)
 
 -- what stages with layers make is whole
 pub whole_is : {S : Type 0} (takes : S → Shape → Type 0) (shaped : S → Shape → Shape) (apply : S → Plane → Plane)
-    → ((s : S) (t : Shape) → IsShape t → takes s t → IsShape (shaped s t)) → ((s : S) (t : Shape) (Q : Plane) → IsShape t → takes s t → IsPlane Q t → IsPlane (apply s Q) (shaped s t))
-    → (input : Shape) (stages : List S) (layers : List Layer) (P : Plane) → AreLayers takes shaped input stages layers → IsShape input → IsPlane P input → IsPlane (whole_of apply stages P) (last_shape shaped input stages)
+    → ((s : S) (t : Shape) → IsShape t → takes s t → IsShape (shaped s t))
+    → ((s : S) (t : Shape) (Q : Plane) → IsShape t → takes s t → IsPlane Q t → IsPlane (apply s Q) (shaped s t))
+    → (input : Shape) (stages : List S) (layers : List Layer) (P : Plane) → AreLayers takes shaped input stages layers
+    → IsShape input → IsPlane P input → IsPlane (whole_of apply stages P) (last_shape shaped input stages)
 whole_is takes shaped apply shapes planes input [] layers P are is is_P = is_P
 whole_is takes shaped apply shapes planes input (stage ∷ stages) [] P are is is_P = absurd are
 whole_is takes shaped apply shapes planes input (stage ∷ stages) (layer ∷ layers) P are is is_P =
     let taken : takes stage input = subst (λ (t : Shape). takes stage t) are.0 are.1.taken in
-    whole_is takes shaped apply shapes planes (shaped stage input) stages layers (apply stage P) are.2 (shapes stage input is taken) (planes stage input P is taken is_P)
+    whole_is takes shaped apply shapes planes (shaped stage input) stages layers (apply stage P) are.2
+    (shapes stage input is taken) (planes stage input P is taken is_P)
 
 -- the tier of a stage over a layer's input, with the cells of a grid
 abbrev pub tier_on : {S : Type 0} → S → Layer → Grid → Tier S
-tier_on stage layer grid = record { stage = stage; input = layer.input; shape = grid.shape; cells = grid_cells grid.shape grid.side }
+tier_on stage layer grid = record {
+  stage = stage;
+  input = layer.input;
+  shape = grid.shape;
+  cells = grid_cells grid.shape grid.side;
+}
 
 -- what is known of the stage on top, its layer and its tier
-pub record IsOnTop {S : Type 0} (takes : S → Shape → Type 0) (shaped : S → Shape → Shape) (apply : S → Plane → Plane) (start : Shape) (P : Plane) (side : ℕ) (all others : List S) (stage : S) (layers : List Layer) (layer : Layer) (on : Grid) : Type 0 where
+pub record IsOnTop {S : Type 0} (takes : S → Shape → Type 0) (shaped : S → Shape → Shape) (apply : S → Plane → Plane)
+    (start : Shape) (P : Plane) (side : ℕ) (all others : List S) (stage : S) (layers : List Layer) (layer : Layer)
+    (on : Grid) : Type 0 where
   pub tiers : tiers_of shaped side start all ≡ tiers_of shaped side start others ++ tier_on stage layer on ∷ []
   pub plane : length all ≡ length (tiers_of shaped side start others) + 1
   pub below : AreLayers takes shaped start others layers
@@ -67,11 +83,15 @@ pub record IsOnTop {S : Type 0} (takes : S → Shape → Type 0) (shaped : S →
   pub whole : whole_of apply all P ≡ apply stage (whole_of apply others P)
 
 pub on_top : {S : Type 0} (takes : S → Shape → Type 0) (shaped : S → Shape → Shape) (apply : S → Plane → Plane)
-    → ((s : S) (t : Shape) → IsShape t → takes s t → IsShape (shaped s t)) → ((s : S) (t : Shape) (Q : Plane) → IsShape t → takes s t → IsPlane Q t → IsPlane (apply s Q) (shaped s t))
-    → (P : Plane) (told : Shape) → IsShape told → IsPlane P told → (side : ℕ) (all below : List S) (stage : S) (all_layers lower : List Layer) (layer : Layer) (grid : Grid)
-    → all ≡ below ++ stage ∷ [] → length all ≡ length below + 1 → all_layers ≡ lower ++ layer ∷ [] → AreLayers takes shaped (shape_of P) all all_layers → grid.shape ≡ layer.shape → grid.side ≡ side
+    → ((s : S) (t : Shape) → IsShape t → takes s t → IsShape (shaped s t))
+    → ((s : S) (t : Shape) (Q : Plane) → IsShape t → takes s t → IsPlane Q t → IsPlane (apply s Q) (shaped s t))
+    → (P : Plane) (told : Shape) → IsShape told → IsPlane P told
+    → (side : ℕ) (all below : List S) (stage : S) (all_layers lower : List Layer) (layer : Layer) (grid : Grid)
+    → all ≡ below ++ stage ∷ [] → length all ≡ length below + 1 → all_layers ≡ lower ++ layer ∷ []
+    → AreLayers takes shaped (shape_of P) all all_layers → grid.shape ≡ layer.shape → grid.side ≡ side
     → IsOnTop takes shaped apply (shape_of P) P side all below stage lower layer grid
-on_top takes shaped apply shapes planes P told is_told is_P_told side all below stage all_layers lower layer grid split long split_layers are same same_side =
+on_top takes shaped apply shapes planes P told is_told is_P_told side all below stage all_layers lower layer grid split
+    long split_layers are same same_side =
     let input : Shape = shape_of P in
     let same_input : input ≡ told = shape_is P told is_P_told in
     let is : IsShape input = subst IsShape (sym same_input) is_told in
@@ -82,10 +102,14 @@ on_top takes shaped apply shapes planes P told is_told is_P_told side all below 
     let tier : tier_of shaped side (last_shape shaped input below) stage ≡ tier_on stage layer grid =
     ap (λ (t : Shape). tier_of shaped side t stage) (sym low)
     ∙ ap (λ (t : Shape). record { stage = stage; input = layer.input; shape = t; cells = grid_cells t side }) (sym made)
-    ∙ ap (λ (n : ℕ). record { stage = stage; input = layer.input; shape = grid.shape; cells = grid_cells grid.shape n }) (sym same_side) in
-    let lowest : IsPlane (whole_of apply below P) layer.input = subst (λ (t : Shape). IsPlane (whole_of apply below P) t) (sym low) (whole_is takes shaped apply shapes planes input below lower P top.below is is_P) in
+    ∙ ap (λ (n : ℕ). record { stage = stage; input = layer.input; shape = grid.shape; cells = grid_cells grid.shape n })
+    (sym same_side) in
+    let lowest : IsPlane (whole_of apply below P) layer.input =
+    subst (λ (t : Shape). IsPlane (whole_of apply below P) t) (sym low)
+    (whole_is takes shaped apply shapes planes input below lower P top.below is is_P) in
     record {
-      tiers = ap (λ (xs : List _). tiers_of shaped side input xs) split ∙ tiers_last shaped side input below stage ∙ ap (λ (x : Tier _). tiers_of shaped side input below ++ x ∷ []) tier;
+      tiers = ap (λ (xs : List _). tiers_of shaped side input xs) split ∙ tiers_last shaped side input below stage
+          ∙ ap (λ (x : Tier _). tiers_of shaped side input below ++ x ∷ []) tier;
       plane = long ∙ ap (λ n. n + 1) (sym (tiers_length shaped side input below));
       below = top.below;
       input = top.is.input;
@@ -94,23 +118,37 @@ on_top takes shaped apply shapes planes P told is_told is_P_told side all below 
       last = shape_top shaped input all below stage split ∙ ap (shaped stage) (sym low) ∙ sym made;
       low = low;
       lower = lowest;
-      own = subst (λ (t : Shape). IsPlane (apply stage (whole_of apply below P)) t) (sym made) (planes stage layer.input (whole_of apply below P) top.is.input top.is.taken lowest);
+      own = subst (λ (t : Shape). IsPlane (apply stage (whole_of apply below P)) t) (sym made)
+          (planes stage layer.input (whole_of apply below P) top.is.input top.is.taken lowest);
       whole = whole_top apply all below stage P split;
     }
 
 -- what is held of the tier on top, and of those below
-pub record IsHeldOnTop {S : Type 0} (shaped : S → Shape → Shape) (apply : S → Plane → Plane) (held : Held) (input : Shape) (P : Plane) (side : ℕ) (all below : List S) (stage : S) (grid : Grid) : Type 0 where
+pub record IsHeldOnTop {S : Type 0} (shaped : S → Shape → Shape) (apply : S → Plane → Plane) (held : Held)
+    (input : Shape) (P : Plane) (side : ℕ) (all below : List S) (stage : S) (grid : Grid) : Type 0 where
   pub right : IsRight held (length all) (apply stage (whole_of apply below P)) (grid_cells grid.shape grid.side)
   pub rights : AreRight apply held 0 P (tiers_of shaped side input below)
   pub sizes : HasSizes held (length all) grid.shape.planes (grid_cells grid.shape grid.side)
 
-pub held_on_top : {S : Type 0} (takes : S → Shape → Type 0) (shaped : S → Shape → Shape) (apply : S → Plane → Plane) (held : Held) (input : Shape) (P : Plane) (side : ℕ) (all below : List S) (stage : S) (lower : List Layer) (layer : Layer) (grid : Grid)
-    → IsOnTop takes shaped apply input P side all below stage lower layer grid → AreRight apply held 0 P (tiers_of shaped side input all) → IsHeldOnTop shaped apply held input P side all below stage grid
+pub held_on_top : {S : Type 0} (takes : S → Shape → Type 0) (shaped : S → Shape → Shape) (apply : S → Plane → Plane)
+    (held : Held) (input : Shape) (P : Plane) (side : ℕ) (all below : List S) (stage : S) (lower : List Layer)
+    (layer : Layer) (grid : Grid)
+    → IsOnTop takes shaped apply input P side all below stage lower layer grid
+    → AreRight apply held 0 P (tiers_of shaped side input all)
+    → IsHeldOnTop shaped apply held input P side all below stage grid
 held_on_top takes shaped apply held input P side all below stage lower layer grid top rights =
-    let were = top_kept apply held P (tiers_of shaped side input all) (tiers_of shaped side input below) (tier_on stage layer grid) (length all) top.tiers top.plane rights in
+    let were = top_kept apply held P (tiers_of shaped side input all) (tiers_of shaped side input below)
+    (tier_on stage layer grid) (length all) top.tiers top.plane rights in
     let cells : List Rect = grid_cells grid.shape grid.side in
-    let right : IsRight held (length all) (apply stage (whole_of apply below P)) cells = subst (λ (Q : Plane). IsRight held (length all) (apply stage Q) cells) (developed_is shaped apply side input below P) were.right in
-    record { right = right; rights = were.rights; sizes = sizes_from held (length all) (apply stage (whole_of apply below P)) grid.shape.planes cells top.own.shape.planes right }
+    let right : IsRight held (length all) (apply stage (whole_of apply below P)) cells =
+    subst (λ (Q : Plane). IsRight held (length all) (apply stage Q) cells)
+    (developed_is shaped apply side input below P) were.right in
+    record {
+      right = right;
+      rights = were.rights;
+      sizes = sizes_from held (length all) (apply stage (whole_of apply below P)) grid.shape.planes cells
+          top.own.shape.planes right;
+    }
 
 -- ---- nothing is wanted
 
@@ -124,44 +162,62 @@ missing_none held plane cells = ap (missing held plane) (meeting_none cells 0)
 fresh_none : (held : Held) (plane : ℕ) (cells : List Rect) → fresh held plane (meeting cells []) ≡ []
 fresh_none held plane cells = ap (fresh held plane) (meeting_none cells 0)
 
-wanted_none : {S : Type 0} (held : Held) (need : S → Shape → Rect → Rect) (plane : ℕ) (tiers : List (Tier S)) → wanted_below held need plane tiers [] ≡ []
+wanted_none : {S : Type 0} (held : Held) (need : S → Shape → Rect → Rect) (plane : ℕ) (tiers : List (Tier S))
+    → wanted_below held need plane tiers [] ≡ []
 wanted_none held need plane [] = refl
 wanted_none held need plane (tier ∷ tiers) =
     ap (λ (rects : List Rect). needs_of held need (plane + 1) tier rects) (wanted_none held need (plane + 1) tiers)
-    ∙ ap (λ (xs : List ℕ). map (need tier.stage tier.input) (cells_at tier.cells xs)) (missing_none held (plane + 1) tier.cells)
+    ∙ ap (λ (xs : List ℕ). map (need tier.stage tier.input) (cells_at tier.cells xs))
+    (missing_none held (plane + 1) tier.cells)
 
-pub runs_none : {S : Type 0} (held : Held) (need : S → Shape → Rect → Rect) (plane : ℕ) (tiers : List (Tier S)) → count_of_runs held need plane tiers [] ≡ 0
+pub runs_none : {S : Type 0} (held : Held) (need : S → Shape → Rect → Rect) (plane : ℕ) (tiers : List (Tier S))
+    → count_of_runs held need plane tiers [] ≡ 0
 runs_none held need plane [] = refl
 runs_none held need plane (tier ∷ tiers) =
-    let here : length (missing held (plane + 1) (meeting tier.cells (wanted_below held need (plane + 1) tiers []))) ≡ 0 =
-    ap (λ (rects : List Rect). length (missing held (plane + 1) (meeting tier.cells rects))) (wanted_none held need (plane + 1) tiers) ∙ ap length (missing_none held (plane + 1) tier.cells) in
+    let here : length (missing held (plane + 1) (meeting tier.cells (wanted_below held need (plane + 1) tiers [])))
+    ≡ 0 =
+    ap (λ (rects : List Rect). length (missing held (plane + 1) (meeting tier.cells rects)))
+    (wanted_none held need (plane + 1) tiers) ∙ ap length (missing_none held (plane + 1) tier.cells) in
     omega (arith, here, runs_none held need (plane + 1) tiers)
 
-pub fetches_none : {S : Type 0} (held : Held) (need : S → Shape → Rect → Rect) (cells : List Rect) (tiers : List (Tier S)) → count_of_fetches held need cells tiers [] ≡ 0
-fetches_none held need cells tiers = ap (λ (rects : List Rect). length (missing held 0 (meeting cells rects))) (wanted_none held need 0 tiers) ∙ ap length (missing_none held 0 cells)
+pub fetches_none : {S : Type 0} (held : Held) (need : S → Shape → Rect → Rect) (cells : List Rect)
+    (tiers : List (Tier S)) → count_of_fetches held need cells tiers [] ≡ 0
+fetches_none held need cells tiers = ap (λ (rects : List Rect). length (missing held 0 (meeting cells rects)))
+    (wanted_none held need 0 tiers) ∙ ap length (missing_none held 0 cells)
 
-brought_none : {S : Type 0} (held : Held) (need : S → Shape → Rect → Rect) (c : Kept) (plane : ℕ) (tiers : List (Tier S)) → brought_above held need c plane tiers [] ≡ c
+brought_none : {S : Type 0} (held : Held) (need : S → Shape → Rect → Rect) (c : Kept) (plane : ℕ)
+    (tiers : List (Tier S)) → brought_above held need c plane tiers [] ≡ c
 brought_none held need c plane [] = refl
 brought_none held need c plane (tier ∷ tiers) =
-    ap (λ (rects : List Rect). brought_each (brought_above held need c (plane + 1) tiers []) (plane + 1) (fresh held (plane + 1) (meeting tier.cells rects))) (wanted_none held need (plane + 1) tiers)
-    ∙ ap (λ (xs : List ℕ). brought_each (brought_above held need c (plane + 1) tiers []) (plane + 1) xs) (fresh_none held (plane + 1) tier.cells)
+    ap (λ (rects : List Rect). brought_each (brought_above held need c (plane + 1) tiers []) (plane + 1)
+    (fresh held (plane + 1) (meeting tier.cells rects))) (wanted_none held need (plane + 1) tiers)
+    ∙ ap (λ (xs : List ℕ). brought_each (brought_above held need c (plane + 1) tiers []) (plane + 1) xs)
+    (fresh_none held (plane + 1) tier.cells)
     ∙ brought_none held need c (plane + 1) tiers
 
-put_none : {S : Type 0} (held : Held) (need : S → Shape → Rect → Rect) (c : Kept) (plane : ℕ) (tiers : List (Tier S)) → put_above held need c plane tiers [] ≡ c
+put_none : {S : Type 0} (held : Held) (need : S → Shape → Rect → Rect) (c : Kept) (plane : ℕ) (tiers : List (Tier S))
+    → put_above held need c plane tiers [] ≡ c
 put_none held need c plane [] = refl
 put_none held need c plane (tier ∷ tiers) =
-    ap (λ (rects : List Rect). put_above held need (put_each c (plane + 1) (size_of tier.cells tier.shape.planes) (missing held (plane + 1) (meeting tier.cells rects))) (plane + 1) tiers []) (wanted_none held need (plane + 1) tiers)
-    ∙ ap (λ (xs : List ℕ). put_above held need (put_each c (plane + 1) (size_of tier.cells tier.shape.planes) xs) (plane + 1) tiers []) (missing_none held (plane + 1) tier.cells)
+    ap (λ (rects : List Rect). put_above held need (put_each c (plane + 1) (size_of tier.cells tier.shape.planes)
+    (missing held (plane + 1) (meeting tier.cells rects))) (plane + 1) tiers [])
+    (wanted_none held need (plane + 1) tiers)
+    ∙ ap (λ (xs : List ℕ). put_above held need (put_each c (plane + 1) (size_of tier.cells tier.shape.planes) xs)
+    (plane + 1) tiers []) (missing_none held (plane + 1) tier.cells)
     ∙ put_none held need c (plane + 1) tiers
 
 base_none : (held : Held) (c : Kept) (planes : ℕ) (cells : List Rect) → keep_base held c planes cells [] ≡ c
 base_none held c planes cells =
-    ap (λ (xs : List ℕ). put_each (brought_each c 0 xs) 0 (size_of cells planes) (missing held 0 (meeting cells []))) (fresh_none held 0 cells)
+    ap (λ (xs : List ℕ). put_each (brought_each c 0 xs) 0 (size_of cells planes) (missing held 0 (meeting cells [])))
+    (fresh_none held 0 cells)
     ∙ ap (λ (xs : List ℕ). put_each c 0 (size_of cells planes) xs) (missing_none held 0 cells)
 
-pub keep_none : {S : Type 0} (held : Held) (need : S → Shape → Rect → Rect) (c : Kept) (planes : ℕ) (cells : List Rect) (tiers : List (Tier S)) → keep held need c planes cells tiers [] ≡ c
+pub keep_none : {S : Type 0} (held : Held) (need : S → Shape → Rect → Rect) (c : Kept) (planes : ℕ) (cells : List Rect)
+    (tiers : List (Tier S)) → keep held need c planes cells tiers [] ≡ c
 keep_none held need c planes cells tiers =
-    put_none held need (keep_base held (brought_above held need c 0 tiers []) planes cells (wanted_below held need 0 tiers [])) 0 tiers
-    ∙ ap (λ (rects : List Rect). keep_base held (brought_above held need c 0 tiers []) planes cells rects) (wanted_none held need 0 tiers)
+    put_none held need (keep_base held (brought_above held need c 0 tiers []) planes cells
+    (wanted_below held need 0 tiers [])) 0 tiers
+    ∙ ap (λ (rects : List Rect). keep_base held (brought_above held need c 0 tiers []) planes cells rects)
+    (wanted_none held need 0 tiers)
     ∙ base_none held (brought_above held need c 0 tiers []) planes cells
     ∙ brought_none held need c 0 tiers

@@ -1,5 +1,3 @@
-pub mod Examples
-pub mod Layers
-pub mod Parts
 pub mod Sessions
 pub mod Stacks
+pub mod inner

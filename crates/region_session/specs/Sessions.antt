@@ -1,5 +1,5 @@
 -- What contracts see of a session, and of a tally. This is this project's own.
-use Rattle.std.specs.Prelude.{◌≡◌, ℕ, ◌+◌, ◌^◌, ◌≤◌, List, [], ◌∷◌, get_or, length}
+use Rattle.std.specs.Prelude.{ℕ, List, [], ◌∷◌, get_or}
 use Rattle.std.specs.List.{sum_by}
 use Rattle.plane_view.specs.declared.Rect.{Rect}
 use Rattle.plane_view.specs.declared.Shape.{Shape}
@@ -7,19 +7,15 @@ use Rattle.plane_view.specs.Plane.{Plane}
 use Rattle.stage_core.specs.Stages.{shape_of}
 use Rattle.stage_deps.specs.Stamping.{Stamped}
 use Rattle.tile_cache.specs.declared.Key.{Key}
-use Rattle.kept_cells.specs.declared.tiles.Tiles.{Tiles}
-use Rattle.kept_cells.specs.Held.{AreRight, IsRight}
 use Rattle.kept_cells.specs.Kept.{Kept, holding, keep_of}
 use Rattle.kept_cells.specs.Missing.{count_of_fetches, count_of_runs}
 use Rattle.kept_cells.specs.Tiers.{Tier, tiers_of}
-use Rattle.kept_cells.specs.Tiling.{held_in}
-use Rattle.region_session.specs.declared.layers.Layer.{Layer}
 use Rattle.region_session.specs.declared.tally.Tally.{Tally}
-use Rattle.region_session.specs.Layers.{AreLayers}
 
--- the base's plane, its cells and its count of fetches; the stages; the side of the cells of their planes; how many samples
--- may be kept; how many cells were fetched and run since opening, held at the greatest number of 64 bits; the stamp of each
--- plane and the number of changes; the keys that are held with the sizes of their cells, the most recent first
+-- the base's plane, its cells and its count of fetches; the stages; the side of the cells of their planes; how many
+-- samples may be kept; how many cells were fetched and run since opening, held at the greatest number of 64 bits; the
+-- stamp of each plane and the number of changes; the keys that are held with the sizes of their cells, the most recent
+-- first
 pub record Opened (S : Type 0) : Type 0 where
   pub plane : Plane
   pub cells : List Rect
@@ -34,41 +30,35 @@ pub record Opened (S : Type 0) : Type 0 where
 
 -- the keys under the stamps and the limits
 abbrev pub list_of : {S : Type 0} → Opened S → Kept
-list_of s = record { items = s.keys; stamps = λ plane. get_or s.stamps.stamps plane 0; slots = 65536; budget = s.budget }
+list_of s = record {
+  items = s.keys;
+  stamps = λ plane. get_or s.stamps.stamps plane 0;
+  slots = 65536;
+  budget = s.budget;
+}
 
 -- the planes of the stages, with their cells
 abbrev pub planes_of : {S : Type 0} → (S → Shape → Shape) → Opened S → List (Tier S)
 planes_of shaped s = tiers_of shaped s.side (shape_of s.plane) s.stages
 
--- how many cells of the base's plane, and how many of the stages' planes, a rectangle of the last plane needs that aren't held
+-- how many cells of the base's plane, and how many of the stages' planes, a rectangle of the last plane needs that
+-- aren't held
 abbrev pub missing_fetches : {S : Type 0} → (S → Shape → Shape) → (S → Shape → Rect → Rect) → Opened S → Rect → ℕ
-missing_fetches shaped needed s rect = count_of_fetches (holding (list_of s)) needed s.cells (planes_of shaped s) (rect ∷ [])
+missing_fetches shaped needed s rect =
+    count_of_fetches (holding (list_of s)) needed s.cells (planes_of shaped s) (rect ∷ [])
 
 abbrev pub missing_runs : {S : Type 0} → (S → Shape → Shape) → (S → Shape → Rect → Rect) → Opened S → Rect → ℕ
 missing_runs shaped needed s rect = count_of_runs (holding (list_of s)) needed 0 (planes_of shaped s) (rect ∷ [])
 
 -- the keys that are held once this rectangle is made
-abbrev pub keys_after : {S : Type 0} → (S → Shape → Shape) → (S → Shape → Rect → Rect) → Opened S → Rect → List (Key × ℕ)
-keys_after shaped needed s rect = (keep_of needed (list_of s) s.plane.planes s.cells (planes_of shaped s) (rect ∷ [])).items
+abbrev pub keys_after : {S : Type 0}
+    → (S → Shape → Shape) → (S → Shape → Rect → Rect) → Opened S → Rect → List (Key × ℕ)
+keys_after shaped needed s rect =
+    (keep_of needed (list_of s) s.plane.planes s.cells (planes_of shaped s) (rect ∷ [])).items
 
 -- how many samples are kept
 abbrev pub samples_kept : {S : Type 0} → Opened S → ℕ
 samples_kept s = sum_by (λ item. item.1) s.keys
-
--- how the fields of a session hang together: each cell that is held is the crop of its plane under the present stages
-pub record AreSound {S : Type 0} (takes : S → Shape → Type 0) (shaped : S → Shape → Shape) (apply : S → Plane → Plane) (P : Plane) (base_cells cells : List Rect) (stages : List S) (layers : List Layer) (needs side : ℕ) (tiles : Tiles) : Type 0 where
-  pub same : cells ≡ base_cells
-  pub stand : AreLayers takes shaped (shape_of P) stages layers
-  pub some : 1 ≤ length stages
-  pub few : length stages ≤ 64
-  pub room : needs ≡ length stages + 1
-  pub least : 16 ≤ side
-  pub most : side ≤ 512
-  pub stamped : length tiles.stamps.stamps ≡ length stages + 1
-  pub slots : tiles.cells.slots ≡ 65536
-  pub small : tiles.cells.budget ≤ 2 ^ 30
-  pub base_right : IsRight (held_in tiles.cells tiles.stamps.stamps) 0 P base_cells
-  pub right : AreRight apply (held_in tiles.cells tiles.stamps.stamps) 0 P (tiers_of shaped side (shape_of P) stages)
 
 -- the three numbers of a tally
 abbrev pub fetched_of : Tally → ℕ

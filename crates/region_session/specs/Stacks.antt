@@ -13,13 +13,16 @@ abbrev pub plane_shape : {S : Type 0} → (S → Shape → Shape) → Shape → 
 plane_shape shaped input stages k = last_shape shaped input (take k stages)
 
 -- stage k, counted from 1, is the first that refuses the shape of the plane below it
-pub record IsFirstRefusal {S : Type 0} (takes : S → Shape → Type 0) (shaped : S → Shape → Shape) (stages : List S) (input : Shape) (k : ℕ) : Type 0 where
+pub record IsFirstRefusal {S : Type 0} (takes : S → Shape → Type 0) (shaped : S → Shape → Shape) (stages : List S)
+    (input : Shape) (k : ℕ) : Type 0 where
   pub least : 1 ≤ k
   pub most : k ≤ length stages
   pub before : TakeInTurn takes shaped (take (k - 1) stages) input
-  pub refuses : (stage : S) → slice_get stages (k - 1) ≡ Some stage → takes stage (plane_shape shaped input stages (k - 1)) → ⊥
+  pub refuses : (stage : S) → slice_get stages (k - 1) ≡ Some stage
+      → takes stage (plane_shape shaped input stages (k - 1)) → ⊥
 
 -- the shape of what a stage makes of planes of a shape, if it takes them
-pub record IsShapeOver {S : Type 0} (takes : S → Shape → Type 0) (shaped : S → Shape → Shape) (stage : S) (input : Shape) (got : Option Shape) : Type 0 where
+pub record IsShapeOver {S : Type 0} (takes : S → Shape → Type 0) (shaped : S → Shape → Shape) (stage : S)
+    (input : Shape) (got : Option Shape) : Type 0 where
   pub none : got ≡ None → takes stage input → ⊥
   pub some : (made : Shape) → got ≡ Some made → takes stage input × (made ≡ shaped stage input)

@@ -15,7 +15,8 @@ fn told<B: Base, S: Stage>(session: &Session<B, S>) -> [u64; 3] {
     [session.fetched(), session.ran(), session.kept()]
 }
 
-/// Puts a stage that looks so many pixels round itself in the place of stage `k`, and tells how many changes there were.
+/// Puts a stage that looks so many pixels round itself in the place of stage `k`, and tells how many changes there
+/// were.
 pub(crate) fn look<'a>(
     session: &mut Session<Whole<'a>, Near<'a>>,
     k: u32,
@@ -32,8 +33,8 @@ pub(crate) fn look<'a>(
     session.changes()
 }
 
-/// What is told once the whole last plane is made, and again after the last stage was replaced by another one, and by an
-/// equal one.
+/// What is told once the whole last plane is made, and again after the last stage was replaced by another one, and by
+/// an equal one.
 fn told_thrice<'a, L: Ledger>(
     session: &mut Session<Whole<'a>, Near<'a>>,
     done: &'a Done,
@@ -93,8 +94,8 @@ fn keeps_what_the_budget_allows(rt: HostRuntime) {
     assert!(rt; kept(alloc, 40, 48, 16, 0) == Some([[1, 63, 0], [2, 126, 0], [3, 189, 0]]));
 }
 
-/// How many changes there were, and what is told, after the last stage is replaced by another one, by one of another shape,
-/// and by one like the first.
+/// How many changes there were, and what is told, after the last stage is replaced by another one, by one of another
+/// shape, and by one like the first.
 fn back_again<'a, L: Ledger>(
     session: &mut Session<Whole<'a>, Near<'a>>,
     done: &'a Done,

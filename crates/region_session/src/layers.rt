@@ -2,7 +2,7 @@
 
 ghost use Rattle.std.specs.Prelude.{◌≡◌, ℕ, ◌+◌, ◌-◌, ◌≤◌, ◌<◌, ◌^◌, [], length, IfOk, IfErr, OnOk};
 ghost use Rattle.plane_view.specs.Shapes.{IsShape};
-ghost use Rattle.region_session.specs.Layers.{AreLayers};
+ghost use Rattle.region_session.specs.inner.Layers.{AreLayers};
 ghost use Rattle.region_session.specs.Stacks.{IsFirstRefusal};
 
 use crate::OpenFault;
@@ -45,7 +45,8 @@ impl Needed {
 ///
 /// # Errors
 ///
-/// `Shape` exactly where a stage refuses the shape below it, for the first such one; `Memory` where there is no memory.
+/// `Shape` only where a stage refuses the shape of the plane below it, with the number of the first such one; there are
+/// layers only where none refuses. `Memory` when out of memory.
 pub(crate) fn layers_of<S: Stage>(
     alloc: Global,
     input: Shape,
@@ -54,7 +55,8 @@ pub(crate) fn layers_of<S: Stage>(
     requires shape { IsShape input }
     requires few { length stages.now ≤ 64 }
     ensures layers { IfOk result (λ layers. AreLayers S.takes S.shaped input stages.now layers.items) }
-    ensures refused { IfErr result (λ fault. (k : ℕ) → fault ≡ OpenFault.Shape k → IsFirstRefusal S.takes S.shaped stages.now input k) }
+    ensures refused { IfErr result (λ fault. (k : ℕ) → fault ≡ OpenFault.Shape k
+        → IsFirstRefusal S.takes S.shaped stages.now input k) }
 {
     let mut layers = Vec::new(alloc);
     let mut input = input;

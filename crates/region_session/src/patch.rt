@@ -10,7 +10,7 @@ ghost use Rattle.stage_core.specs.Bases.{raised};
 ghost use Rattle.stage_core.specs.Planes.{IsPart, IsPlane};
 ghost use Rattle.kept_cells.specs.Held.{SameHeld};
 ghost use Rattle.kept_cells.specs.Kept.{brought};
-ghost use Rattle.region_session.specs.Parts.{part_in};
+ghost use Rattle.region_session.specs.inner.Parts.{part_in};
 
 use kept_cells::Cache;
 use plane_view::{Rect, Shape, TileMut, View};
@@ -31,7 +31,7 @@ impl Model for Patch {
     ghost use Rattle.std.specs.Prelude.{◌*◌, ◌≤◌, length};
     ghost use Rattle.plane_view.specs.Rectangles.{area_of};
     ghost use Rattle.plane_view.specs.Lent.{Lent};
-    ghost use Rattle.region_session.specs.Parts.{part_in};
+    ghost use Rattle.region_session.specs.inner.Parts.{part_in};
 
     ghost Value = { Lent };
 
@@ -60,7 +60,7 @@ impl Patch {
     ///
     /// # Errors
     ///
-    /// Where its memory has to grow, and there is none.
+    /// Out of memory, where its own has to grow.
     pub fn reset(&mut self, rect: Rect, planes: u32) -> Result<(), AllocError>
         requires { area_of rect * planes < 2 ^ 32 }
         ensures rect { OnOk result (self.new.rect ≡ rect) }
@@ -152,7 +152,8 @@ impl Patch {
     ) -> bool
         requires inside { LiesIn window self.old.rect }
         requires plane { plane < length (C.marks cache.old).stamps }
-        requires size { (C.held cache.old).holds plane k ≡ true → length ((C.held cache.old).samples plane k) ≡ area_of cell * self.old.planes }
+        requires size { (C.held cache.old).holds plane k ≡ true → length ((C.held cache.old).samples plane k)
+            ≡ area_of cell * self.old.planes }
         ensures found { result ≡ (C.held cache.old).holds plane k }
         ensures rect { self.new.rect ≡ self.old.rect }
         ensures planes { self.new.planes ≡ self.old.planes }
@@ -190,7 +191,8 @@ fn run_into<S: Stage, L: Ledger>(
     requires planes { planes ≡ (S.shaped stage.now input).planes }
     requires room { area_of rect * planes ≤ length memory.old }
     ensures made { (P : Plane) → IsPlane P input → AgreesWith P lower.now (S.needed stage.now input cell)
-        → CopiesFrom (part_in rect planes memory.old) (part_in rect planes memory.new) (lent_crop (S.apply stage.now P) cell) rect }
+        → CopiesFrom (part_in rect planes memory.old) (part_in rect planes memory.new)
+        (lent_crop (S.apply stage.now P) cell) rect }
     ensures work { work.new ≡ work.old + 1 }
 {
     let count = rect.area() as usize * planes as usize;
@@ -226,7 +228,8 @@ fn run_tile<S: Stage, L: Ledger>(
     requires planes { planes ≡ (S.shaped stage.now input).planes }
     requires long { length samples.old ≡ area_of rect * planes }
     ensures made { (P : Plane) → IsPlane P input → AgreesWith P lower.now (S.needed stage.now input cell)
-        → CopiesFrom (record { rect = rect; planes = planes; samples = samples.old }) (record { rect = rect; planes = planes; samples = samples.new })
+        → CopiesFrom (record { rect = rect; planes = planes; samples = samples.old })
+        (record { rect = rect; planes = planes; samples = samples.new })
         (lent_crop (S.apply stage.now P) cell) rect }
     ensures work { work.new ≡ work.old + 1 }
 {
@@ -249,7 +252,8 @@ fn fetch_into<B: Base, L: Ledger>(
     requires inside { LiesIn cell rect }
     requires planes { planes ≡ (B.plane base.old).planes }
     requires room { area_of rect * planes ≤ length memory.old }
-    ensures fetched { CopiesFrom (part_in rect planes memory.old) (part_in rect planes memory.new) (lent_crop (B.plane base.old) cell) rect }
+    ensures fetched { CopiesFrom (part_in rect planes memory.old) (part_in rect planes memory.new)
+        (lent_crop (B.plane base.old) cell) rect }
     ensures work { work.new ≡ work.old + 1 }
     ensures count { B.fetches base.new ≡ raised (B.fetches base.old) 1 }
     ensures plane { B.plane base.new ≡ B.plane base.old }
@@ -273,7 +277,8 @@ fn fetch_tile<B: Base, L: Ledger>(
     requires inside { LiesIn cell rect }
     requires planes { planes ≡ (B.plane base.old).planes }
     requires long { length samples.old ≡ area_of rect * planes }
-    ensures fetched { CopiesFrom (record { rect = rect; planes = planes; samples = samples.old }) (record { rect = rect; planes = planes; samples = samples.new })
+    ensures fetched { CopiesFrom (record { rect = rect; planes = planes; samples = samples.old })
+        (record { rect = rect; planes = planes; samples = samples.new })
         (lent_crop (B.plane base.old) cell) rect }
     ensures work { work.new ≡ work.old + 1 }
     ensures count { B.fetches base.new ≡ raised (B.fetches base.old) 1 }
@@ -298,7 +303,8 @@ fn find_into<C: Cache>(
 ) -> bool
     requires inside { LiesIn window rect }
     requires plane { plane < length (C.marks cache.old).stamps }
-    requires size { (C.held cache.old).holds plane k ≡ true → length ((C.held cache.old).samples plane k) ≡ area_of cell * planes }
+    requires size { (C.held cache.old).holds plane k ≡ true → length ((C.held cache.old).samples plane k)
+        ≡ area_of cell * planes }
     requires room { area_of rect * planes ≤ length memory.old }
     ensures found { result ≡ (C.held cache.old).holds plane k }
     ensures copies { result ≡ true → CopiesFrom (part_in rect planes memory.old) (part_in rect planes memory.new)
@@ -335,10 +341,12 @@ fn find_tile<C: Cache>(
 ) -> bool
     requires inside { LiesIn window rect }
     requires plane { plane < length (C.marks cache.old).stamps }
-    requires size { (C.held cache.old).holds plane k ≡ true → length ((C.held cache.old).samples plane k) ≡ area_of cell * planes }
+    requires size { (C.held cache.old).holds plane k ≡ true → length ((C.held cache.old).samples plane k)
+        ≡ area_of cell * planes }
     requires long { length samples.old ≡ area_of rect * planes }
     ensures found { result ≡ (C.held cache.old).holds plane k }
-    ensures copies { result ≡ true → CopiesFrom (record { rect = rect; planes = planes; samples = samples.old }) (record { rect = rect; planes = planes; samples = samples.new })
+    ensures copies { result ≡ true → CopiesFrom (record { rect = rect; planes = planes; samples = samples.old })
+        (record { rect = rect; planes = planes; samples = samples.new })
         (record { rect = cell; planes = planes; samples = (C.held cache.old).samples plane k }) window }
     ensures stays { result ≡ false → samples.new ≡ samples.old }
     ensures held { SameHeld (C.held cache.old) (C.held cache.new) }

@@ -14,7 +14,7 @@ ghost use Rattle.stage_deps.specs.Cells.{cell_at, cells_at, meeting};
 ghost use Rattle.stage_deps.specs.Grids.{grid_cells};
 ghost use Rattle.kept_cells.specs.Held.{HasSizes, IsRight, SameHeld, TakesOf, TakesUpTo, fresh, missing};
 ghost use Rattle.kept_cells.specs.Kept.{brought_each, keep_base, put_each, size_of};
-ghost use Rattle.region_session.specs.Parts.{HasCells, HasWanted, HaveSizes, Shows};
+ghost use Rattle.region_session.specs.inner.Parts.{HasCells, HasWanted, HaveSizes, Shows};
 
 use crate::layers::Needed;
 use crate::patch::Patch;
@@ -64,8 +64,10 @@ fn copy_fresh<C: Cache>(
     ensures held { SameHeld (C.held cache.old) (C.held cache.new) }
     ensures marks { C.marks cache.new ≡ C.marks cache.old }
     ensures missing { OnOk result (rest.new.items ≡ missing (C.held cache.old) plane numbers.now) }
-    ensures kept { OnOk result (C.kept cache.new ≡ brought_each (C.kept cache.old) plane (fresh (C.held cache.old) plane numbers.now)) }
-    ensures cells { OnOk result ((P : Plane) (wanted cells : List Rect) → HasWanted window patch.old.rect wanted → P.planes ≡ patch.old.planes → rects.now ≡ cells_at cells numbers.now
+    ensures kept { OnOk result (C.kept cache.new ≡ brought_each (C.kept cache.old) plane
+        (fresh (C.held cache.old) plane numbers.now)) }
+    ensures cells { OnOk result ((P : Plane) (wanted cells : List Rect) → HasWanted window patch.old.rect wanted
+        → P.planes ≡ patch.old.planes → rects.now ≡ cells_at cells numbers.now
         → All (λ k. k < length cells) numbers.now → IsRight (C.held cache.old) plane P cells
         → HasCells P patch.new wanted cells (fresh (C.held cache.old) plane numbers.now)) }
 {
@@ -100,11 +102,14 @@ fn fetch_missing<B: Base, C: Cache, L: Ledger>(
     ensures rect { patch.new.rect ≡ patch.old.rect }
     ensures planes { patch.new.planes ≡ patch.old.planes }
     ensures marks { C.marks cache.new ≡ C.marks cache.old }
-    ensures copied { OnOk result ((wanted : List Rect) (done : List ℕ) → HasCells (B.plane base.old) patch.old wanted (B.cells_of base.old) done
+    ensures copied { OnOk result ((wanted : List Rect) (done : List ℕ)
+        → HasCells (B.plane base.old) patch.old wanted (B.cells_of base.old) done
         → HasCells (B.plane base.old) patch.new wanted (B.cells_of base.old) (done ++ numbers.now)) }
-    ensures right { IsRight (C.held cache.old) 0 (B.plane base.old) (B.cells_of base.old) → IsRight (C.held cache.new) 0 (B.plane base.old) (B.cells_of base.old) }
+    ensures right { IsRight (C.held cache.old) 0 (B.plane base.old) (B.cells_of base.old)
+        → IsRight (C.held cache.new) 0 (B.plane base.old) (B.cells_of base.old) }
     ensures others { TakesOf (C.held cache.old) (C.held cache.new) 0 }
-    ensures kept { OnOk result (C.kept cache.new ≡ put_each (C.kept cache.old) 0 (size_of (B.cells_of base.old) (B.plane base.old).planes) numbers.now) }
+    ensures kept { OnOk result (C.kept cache.new ≡ put_each (C.kept cache.old) 0
+        (size_of (B.cells_of base.old) (B.plane base.old).planes) numbers.now) }
     ensures work { OnOk result (work.new ≡ work.old + length numbers.now) }
     ensures count { OnOk result (B.fetches base.new ≡ raised (B.fetches base.old) (length numbers.now)) }
     ensures base_plane { B.plane base.new ≡ B.plane base.old }
@@ -118,8 +123,8 @@ fn fetch_missing<B: Base, C: Cache, L: Ledger>(
     Ok(())
 }
 
-/// Runs a stage over the missing cells of these numbers, from a part of the plane below into a part of its own plane, and
-/// puts them.
+/// Runs a stage over the missing cells of these numbers, from a part of the plane below into a part of its own plane,
+/// and puts them.
 pub(crate) fn run_missing<S: Stage, C: Cache, L: Ledger>(
     alloc: Global,
     cache: &mut C,
@@ -137,8 +142,10 @@ pub(crate) fn run_missing<S: Stage, C: Cache, L: Ledger>(
     requires takes { S.takes stage.now input }
     requires grid { grid.now.shape ≡ S.shaped stage.now input }
     requires numbers { All (λ k. k < length (grid_cells grid.now.shape grid.now.side)) numbers.now }
-    requires inside { All (λ k. LiesIn (cell_at (grid_cells grid.now.shape grid.now.side) k) patch.old.rect) numbers.now }
-    requires needs { All (λ k. LiesIn (S.needed stage.now input (cell_at (grid_cells grid.now.shape grid.now.side) k)) lower.now.rect) numbers.now }
+    requires inside { All (λ k. LiesIn (cell_at (grid_cells grid.now.shape grid.now.side) k) patch.old.rect)
+        numbers.now }
+    requires needs { All (λ k. LiesIn (S.needed stage.now input (cell_at (grid_cells grid.now.shape grid.now.side) k))
+        lower.now.rect) numbers.now }
     requires lower { lower.now.planes ≡ input.planes }
     requires planes { patch.old.planes ≡ grid.now.shape.planes }
     requires rising { IsStrictlyIncreasing numbers.now }
@@ -147,15 +154,19 @@ pub(crate) fn run_missing<S: Stage, C: Cache, L: Ledger>(
     ensures planes { patch.new.planes ≡ patch.old.planes }
     ensures marks { C.marks cache.new ≡ C.marks cache.old }
     ensures copied { OnOk result ((P : Plane) (wanted : List Rect) (done : List ℕ) → IsPlane P input
-        → All (λ k. AgreesWith P lower.now (S.needed stage.now input (cell_at (grid_cells grid.now.shape grid.now.side) k))) numbers.now
+        → All (λ k. AgreesWith P lower.now
+        (S.needed stage.now input (cell_at (grid_cells grid.now.shape grid.now.side) k))) numbers.now
         → HasCells (S.apply stage.now P) patch.old wanted (grid_cells grid.now.shape grid.now.side) done
-        → HasCells (S.apply stage.now P) patch.new wanted (grid_cells grid.now.shape grid.now.side) (done ++ numbers.now)) }
+        → HasCells (S.apply stage.now P) patch.new wanted (grid_cells grid.now.shape grid.now.side) (done
+        ++ numbers.now)) }
     ensures right { (P : Plane) → IsPlane P input
-        → All (λ k. AgreesWith P lower.now (S.needed stage.now input (cell_at (grid_cells grid.now.shape grid.now.side) k))) numbers.now
+        → All (λ k. AgreesWith P lower.now
+        (S.needed stage.now input (cell_at (grid_cells grid.now.shape grid.now.side) k))) numbers.now
         → IsRight (C.held cache.old) plane (S.apply stage.now P) (grid_cells grid.now.shape grid.now.side)
         → IsRight (C.held cache.new) plane (S.apply stage.now P) (grid_cells grid.now.shape grid.now.side) }
     ensures others { TakesOf (C.held cache.old) (C.held cache.new) plane }
-    ensures kept { OnOk result (C.kept cache.new ≡ put_each (C.kept cache.old) plane (size_of (grid_cells grid.now.shape grid.now.side) grid.now.shape.planes) numbers.now) }
+    ensures kept { OnOk result (C.kept cache.new ≡ put_each (C.kept cache.old) plane
+        (size_of (grid_cells grid.now.shape grid.now.side) grid.now.shape.planes) numbers.now) }
     ensures work { OnOk result (work.new ≡ work.old + length numbers.now) }
 {
     for k in numbers {
@@ -166,8 +177,8 @@ pub(crate) fn run_missing<S: Stage, C: Cache, L: Ledger>(
     Ok(())
 }
 
-/// Opens a part of the base's plane over the cells that meet these rectangles of it: those that are held are copied, and
-/// the others fetched once and put.
+/// Opens a part of the base's plane over the cells that meet these rectangles of it: those that are held are copied,
+/// and the others fetched once and put.
 pub(crate) fn fetch_wanted<B: Base, C: Cache, L: Ledger>(
     alloc: Global,
     source: &mut Source<B>,
@@ -183,10 +194,16 @@ pub(crate) fn fetch_wanted<B: Base, C: Cache, L: Ledger>(
     requires right { IsRight (C.held cache.old) 0 (B.plane source.old.base) (B.cells_of source.old.base) }
     ensures planes { OnOk result (patch.new.planes ≡ (B.plane source.old.base).planes) }
     ensures shows { OnOk result (All (Shows (B.plane source.old.base) patch.new) wanted.now) }
-    ensures work { OnOk result (work.new ≡ work.old + length (missing (C.held cache.old) 0 (meeting (B.cells_of source.old.base) wanted.now))) }
-    ensures count { OnOk result (B.fetches source.new.base ≡ raised (B.fetches source.old.base) (length (missing (C.held cache.old) 0 (meeting (B.cells_of source.old.base) wanted.now)))) }
-    ensures fetched { OnOk result (source.new.fetched ≡ raised source.old.fetched (length (missing (C.held cache.old) 0 (meeting (B.cells_of source.old.base) wanted.now)))) }
-    ensures kept { OnOk result (C.kept cache.new ≡ keep_base (C.held cache.old) (C.kept cache.old) (B.plane source.old.base).planes (B.cells_of source.old.base) wanted.now) }
+    ensures work { OnOk result
+        (work.new ≡ work.old + length
+        (missing (C.held cache.old) 0 (meeting (B.cells_of source.old.base) wanted.now))) }
+    ensures count { OnOk result (B.fetches source.new.base ≡ raised (B.fetches source.old.base)
+        (length (missing (C.held cache.old) 0 (meeting (B.cells_of source.old.base) wanted.now)))) }
+    ensures fetched { OnOk result
+        (source.new.fetched ≡ raised source.old.fetched
+        (length (missing (C.held cache.old) 0 (meeting (B.cells_of source.old.base) wanted.now)))) }
+    ensures kept { OnOk result (C.kept cache.new ≡ keep_base (C.held cache.old) (C.kept cache.old)
+        (B.plane source.old.base).planes (B.cells_of source.old.base) wanted.now) }
     ensures right { IsRight (C.held cache.new) 0 (B.plane source.old.base) (B.cells_of source.old.base) }
     ensures above { TakesUpTo (C.held cache.old) (C.held cache.new) 0 }
     ensures marks { C.marks cache.new ≡ C.marks cache.old }
@@ -242,13 +259,17 @@ pub(crate) fn open_wanted<S: Stage, C: Cache>(
     ensures lower { own.new.lower ≡ own.old.lower }
     ensures planes { OnOk result (patch.new.planes ≡ grid.now.shape.planes) }
     ensures lie { OnOk result (All (λ rect. LiesIn rect patch.new.rect)
-        (cells_at (grid_cells grid.now.shape grid.now.side) (meeting (grid_cells grid.now.shape grid.now.side) wanted.now))) }
-    ensures missing { OnOk result (own.new.missing.items ≡ missing (C.held cache.old) plane (meeting (grid_cells grid.now.shape grid.now.side) wanted.now)) }
-    ensures needs { OnOk result (own.new.needs.items ≡ map (S.needed stage.now input) (cells_at (grid_cells grid.now.shape grid.now.side)
+        (cells_at (grid_cells grid.now.shape grid.now.side)
+        (meeting (grid_cells grid.now.shape grid.now.side) wanted.now))) }
+    ensures missing { OnOk result (own.new.missing.items ≡ missing (C.held cache.old) plane
+        (meeting (grid_cells grid.now.shape grid.now.side) wanted.now)) }
+    ensures needs { OnOk result (own.new.needs.items ≡ map (S.needed stage.now input)
+        (cells_at (grid_cells grid.now.shape grid.now.side)
         (missing (C.held cache.old) plane (meeting (grid_cells grid.now.shape grid.now.side) wanted.now)))) }
     ensures kept { OnOk result (C.kept cache.new ≡ brought_each (C.kept cache.old) plane
         (fresh (C.held cache.old) plane (meeting (grid_cells grid.now.shape grid.now.side) wanted.now))) }
-    ensures cells { OnOk result ((P : Plane) → P.planes ≡ grid.now.shape.planes → IsRight (C.held cache.old) plane P (grid_cells grid.now.shape grid.now.side)
+    ensures cells { OnOk result ((P : Plane) → P.planes ≡ grid.now.shape.planes
+        → IsRight (C.held cache.old) plane P (grid_cells grid.now.shape grid.now.side)
         → HasCells P patch.new wanted.now (grid_cells grid.now.shape grid.now.side)
         (fresh (C.held cache.old) plane (meeting (grid_cells grid.now.shape grid.now.side) wanted.now))) }
     ensures held { SameHeld (C.held cache.old) (C.held cache.new) }

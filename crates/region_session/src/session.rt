@@ -1,6 +1,7 @@
 //! Sessions: stages over a base, of which rectangles are made and single stages replaced.
 
-ghost use Rattle.std.specs.Prelude.{◌≡◌, ℕ, ◌+◌, ◌-◌, ◌*◌, ◌%◌, ◌<◌, ◌≤◌, ◌^◌, [], length, slice_get, slice_set, true, false, Some, IfOk, IfErr, OnOk, OnErr};
+ghost use Rattle.std.specs.Prelude.{◌≡◌, ℕ, ◌+◌, ◌-◌, ◌*◌, ◌%◌, ◌<◌, ◌≤◌, ◌^◌, [], length, slice_get, slice_set, true};
+ghost use Rattle.std.specs.Prelude.{false, Some, IfOk, IfErr, OnOk, OnErr};
 ghost use Rattle.plane_view.specs.Plane.{crop};
 ghost use Rattle.plane_view.specs.Rectangles.{area_of};
 ghost use Rattle.plane_view.specs.Shapes.{IsShape};
@@ -10,7 +11,8 @@ ghost use Rattle.stage_core.specs.Stages.{shape_of};
 ghost use Rattle.stage_chain.specs.Chains.{TakeInTurn, whole_of};
 ghost use Rattle.stage_deps.specs.Stamping.{begun, changed};
 ghost use Rattle.kept_cells.specs.Tiling.{held_in};
-ghost use Rattle.region_session.specs.Sessions.{fetched_of, kept_of, keys_after, missing_fetches, missing_runs, ran_of, samples_kept};
+ghost use Rattle.region_session.specs.Sessions.{fetched_of, kept_of, keys_after, missing_fetches, missing_runs, ran_of};
+ghost use Rattle.region_session.specs.Sessions.{samples_kept};
 ghost use Rattle.region_session.specs.Stacks.{IsFirstRefusal, IsShapeOver, last_shape, plane_shape};
 
 use crate::bands::make;
@@ -27,13 +29,14 @@ use std::sync::ledger::Ledger;
 #[cfg(test)]
 use tile_cache::Key;
 
-/// Stages one after the other over a base, and cells that are kept under a budget. Contracts see the base's plane, cells
-/// and count of fetches, the stages, the stamps and changes, the keys that are held, and how many cells were fetched and
-/// run.
+/// Stages one after the other over a base, and cells that are kept under a budget. Contracts see the base's plane,
+/// cells and count of fetches, the stages, the stamps and changes, the keys that are held, and how many cells were
+/// fetched and run.
 ///
-/// Plane 0 is the base's, with the base's cells; plane k is what stage k, counted from 1, makes of the plane below, with
-/// the square cells of its grid. A cell is held where its key with the present stamp of its plane is, and is then right:
-/// the crop of its plane under the present stages. There are at most 65,536 keys, and no more samples than the budget.
+/// Plane 0 is the base's, with the base's cells; plane k is what stage k, counted from 1, makes of the plane below,
+/// with the square cells of its grid. A cell is held where its key with the present stamp of its plane is, and is then
+/// right: the crop of its plane under the present stages. There are at most 65,536 keys, and no more samples than the
+/// budget.
 #[derive(Drop)]
 pub struct Session<B: Base, S: Stage> {
     source: Source<B>,
@@ -49,7 +52,8 @@ pub struct Session<B: Base, S: Stage> {
 impl<B: Base, S: Stage> Model for Session<B, S> {
     ghost use Rattle.std.specs.Prelude.{length};
     ghost use Rattle.tile_cache.specs.Cache.{sizes};
-    ghost use Rattle.region_session.specs.Sessions.{AreSound, Opened};
+    ghost use Rattle.region_session.specs.Sessions.{Opened};
+    ghost use Rattle.region_session.specs.inner.Soundness.{AreSound};
 
     ghost Value = { Opened S };
 
@@ -66,18 +70,20 @@ impl<B: Base, S: Stage> Model for Session<B, S> {
       keys = sizes s.tiles.cells.pairs;
     } };
 
-    ghost invariant = { λ s. AreSound S.takes S.shaped S.apply (B.plane s.source.base) (B.cells_of s.source.base) s.source.cells.items
+    ghost invariant = { λ s. AreSound S.takes S.shaped S.apply (B.plane s.source.base) (B.cells_of s.source.base)
+        s.source.cells.items
         s.stages.items s.layers.items (length s.needed.items) s.side s.tiles };
 }
 
 impl<B: Base, S: Stage> Session<B, S> {
-    /// Opens 1 to 64 stages over a base, with cells of a side of 16 to 512, a multiple of 16, and a budget of samples of at
-    /// most 2^30. No cell is held yet, and there was no change.
+    /// Opens 1 to 64 stages over a base, with cells of a side of 16 to 512, a multiple of 16, and a budget of samples
+    /// of at most 2^30. No cell is held yet, and there was no change.
     ///
     /// # Errors
     ///
-    /// `Shape` exactly where a stage refuses the shape of the plane below it, for the first such one; `Memory` where
-    /// there is no memory. The base and the stages are dropped.
+    /// `Shape` only where a stage refuses the shape of the plane below it, with the number of the first such one. Over
+    /// a stage that refuses no session is opened. `Memory` when out of memory, which may come before a refusal is seen.
+    /// The base and the stages are dropped.
     pub fn open(
         alloc: Global,
         base: B,
@@ -148,26 +154,35 @@ impl<B: Base, S: Stage> Session<B, S> {
         &self.stages[k as usize - 1]
     }
 
-    /// Puts a stage in the place of stage `k`, counted from 1. One that isn't equal to it is a change of plane `k`: from
-    /// that plane up no cell is held. All keys stay.
+    /// Puts a stage in the place of stage `k`, counted from 1. One that isn't equal to it is a change of plane `k`:
+    /// from that plane up the planes get a new stamp, so that no cell of them is held. All keys stay.
     ///
     /// # Errors
     ///
-    /// Exactly where it makes another shape of the plane below than the present one, or refuses it. Then nothing changes,
-    /// and the new stage is dropped.
+    /// Exactly where it makes another shape of the plane below than the present one, or refuses it. Then nothing
+    /// changes, and the new stage is dropped.
     pub fn replace(&mut self, k: u32, stage: S) -> Result<(), ShapeChanged>
         requires least { 1 ≤ k }
         requires most { k ≤ length self.old.stages }
         requires changes { self.old.stamps.changes < 2 ^ 40 }
-        ensures replaced { OnOk result (self.new ≡ record self.old { stages = slice_set self.old.stages (k - 1) stage; stamps = self.new.stamps }) }
-        ensures equal { OnOk result ((former : S) → slice_get self.old.stages (k - 1) ≡ Some former → S.eq former stage ≡ true
+        ensures replaced { OnOk result (self.new ≡ record self.old {
+          stages = slice_set self.old.stages (k - 1) stage;
+          stamps = self.new.stamps;
+        }) }
+        ensures equal { OnOk result ((former : S) → slice_get self.old.stages (k - 1) ≡ Some former
+            → S.eq former stage ≡ true
             → self.new.stamps ≡ self.old.stamps) }
-        ensures other { OnOk result ((former : S) → slice_get self.old.stages (k - 1) ≡ Some former → S.eq former stage ≡ false
+        ensures other { OnOk result ((former : S) → slice_get self.old.stages (k - 1) ≡ Some former
+            → S.eq former stage ≡ false
             → self.new.stamps ≡ changed k self.old.stamps) }
-        ensures same { OnOk result (IsShapeOver S.takes S.shaped stage (plane_shape S.shaped (shape_of self.old.plane) self.old.stages (k - 1))
+        ensures same { OnOk result
+            (IsShapeOver S.takes S.shaped stage (plane_shape S.shaped (shape_of self.old.plane) self.old.stages (k - 1))
             (Some (plane_shape S.shaped (shape_of self.old.plane) self.old.stages k))) }
-        ensures had { IfErr result (λ fault. fault.had ≡ plane_shape S.shaped (shape_of self.old.plane) self.old.stages k) }
-        ensures got { IfErr result (λ fault. IsShapeOver S.takes S.shaped stage (plane_shape S.shaped (shape_of self.old.plane) self.old.stages (k - 1)) fault.got) }
+        ensures had { IfErr result (λ fault. fault.had ≡ plane_shape S.shaped (shape_of self.old.plane) self.old.stages
+            k) }
+        ensures got { IfErr result
+            (λ fault. IsShapeOver S.takes S.shaped stage (plane_shape S.shaped (shape_of self.old.plane) self.old.stages
+            (k - 1)) fault.got) }
         ensures changed { IfErr result (λ fault. fault.got ≡ Some fault.had → ⊥) }
         ensures takes { TakeInTurn S.takes S.shaped self.old.stages (shape_of self.old.plane) }
         ensures unchanged { OnErr result (self.new ≡ self.old) }
@@ -183,16 +198,18 @@ impl<B: Base, S: Stage> Session<B, S> {
         Ok(())
     }
 
-    /// Writes a rectangle of the last plane, which has pixels: row by row, the planes of a pixel side by side. Each cell
-    /// that it needs and that isn't held is fetched or run once, and no other; nothing is done below a plane of which none
-    /// is missing. What is needed of a plane are the cells that meet what the missing ones of the plane above rest on.
+    /// Writes a rectangle of the last plane, which has pixels: row by row, the planes of a pixel side by side. As many
+    /// cells are fetched and run as it needs that aren't held, and `work` and the counts rise by so many. What is
+    /// needed of a plane are the cells that meet what the missing ones of the plane above rest on.
     ///
     /// Keys of needed cells that were held come to the front, from the last plane down; then those of missing cells are
-    /// put, from plane 0 up, within a plane by rising number. Under a budget of 0 none is ever held.
+    /// put, from plane 0 up, within a plane by rising number. Under a budget of 0, where no key is held, none is held
+    /// after.
     ///
     /// # Errors
     ///
-    /// Where there is no memory. Then `out` holds anything, and any keys may be held; each cell that is held is right.
+    /// Out of memory. Then `out` holds anything, the counts have any value, and any keys may be held; the base's plane,
+    /// the stages and the stamps stay, and each cell that is held is right.
     pub fn band<L: Ledger>(
         &mut self,
         rect: Rect,
@@ -200,9 +217,12 @@ impl<B: Base, S: Stage> Session<B, S> {
         work: &mut Steps<L>,
     ) -> Result<(), AllocError>
         requires rect { IsPart rect (last_shape S.shaped (shape_of self.old.plane) self.old.stages) }
-        requires long { length out.old ≡ area_of rect * (last_shape S.shaped (shape_of self.old.plane) self.old.stages).planes }
+        requires long { length out.old
+            ≡ area_of rect * (last_shape S.shaped (shape_of self.old.plane) self.old.stages).planes }
         ensures crop { OnOk result (out.new ≡ (crop (whole_of S.apply self.old.stages self.old.plane) rect).samples) }
-        ensures work { OnOk result (work.new ≡ work.old + (missing_fetches S.shaped S.needed self.old rect + missing_runs S.shaped S.needed self.old rect)) }
+        ensures work { OnOk result
+            (work.new ≡ work.old + (missing_fetches S.shaped S.needed self.old rect + missing_runs S.shaped S.needed
+            self.old rect)) }
         ensures session { OnOk result (self.new ≡ record self.old {
           fetches = raised self.old.fetches (missing_fetches S.shaped S.needed self.old rect);
           fetched = raised self.old.fetched (missing_fetches S.shaped S.needed self.old rect);
@@ -210,7 +230,12 @@ impl<B: Base, S: Stage> Session<B, S> {
           keys = keys_after S.shaped S.needed self.old rect;
         }) }
         ensures nothing { OnOk result (self.old.budget ≡ 0 → self.old.keys ≡ [] → self.new.keys ≡ []) }
-        ensures kept_as_was { self.new ≡ record self.old { fetches = self.new.fetches; fetched = self.new.fetched; ran = self.new.ran; keys = self.new.keys } }
+        ensures kept_as_was { self.new ≡ record self.old {
+          fetches = self.new.fetches;
+          fetched = self.new.fetched;
+          ran = self.new.ran;
+          keys = self.new.keys;
+        } }
     {
         let alloc = *self.source.cells.allocator();
         let _shape = self.source.base.shape();
@@ -282,7 +307,7 @@ impl<B: Base, S: Stage> Session<B, S> {
         self.tiles.cells.keys()
     }
 
-    /// Ends the session: the numbers of the tally rise by its own.
+    /// Ends the session: the numbers of the tally rise by its own, at most to 2^64 - 1.
     pub fn close(self, into: &mut Tally)
         ensures fetched { fetched_of into.new ≡ raised (fetched_of into.old) self.fetched }
         ensures ran { ran_of into.new ≡ raised (ran_of into.old) self.ran }
@@ -313,9 +338,12 @@ fn change_unless(equal: bool, tiles: &mut Tiles, k: u32)
     ensures other { equal ≡ false → tiles.new.stamps ≡ changed k tiles.old.stamps }
     ensures planes { length tiles.new.stamps.stamps ≡ length tiles.old.stamps.stamps }
     ensures cells { tiles.new.cells ≡ tiles.old.cells }
-    ensures stale { equal ≡ false → (p n : ℕ) → k ≤ p → p < length tiles.old.stamps.stamps → (held_in tiles.new.cells tiles.new.stamps.stamps).holds p n ≡ false }
-    ensures holds { (p n : ℕ) → p < k → (held_in tiles.new.cells tiles.new.stamps.stamps).holds p n ≡ (held_in tiles.old.cells tiles.old.stamps.stamps).holds p n }
-    ensures samples { (p n : ℕ) → p < k → (held_in tiles.new.cells tiles.new.stamps.stamps).samples p n ≡ (held_in tiles.old.cells tiles.old.stamps.stamps).samples p n }
+    ensures stale { equal ≡ false → (p n : ℕ) → k ≤ p → p < length tiles.old.stamps.stamps
+        → (held_in tiles.new.cells tiles.new.stamps.stamps).holds p n ≡ false }
+    ensures holds { (p n : ℕ) → p < k → (held_in tiles.new.cells tiles.new.stamps.stamps).holds p n
+        ≡ (held_in tiles.old.cells tiles.old.stamps.stamps).holds p n }
+    ensures samples { (p n : ℕ) → p < k → (held_in tiles.new.cells tiles.new.stamps.stamps).samples p n
+        ≡ (held_in tiles.old.cells tiles.old.stamps.stamps).samples p n }
 {
     if !equal {
         tiles.change(k);

@@ -3,8 +3,8 @@
 ghost use Rattle.std.specs.Prelude.{◌≡◌};
 ghost use Rattle.stage_core.specs.Bases.{raised};
 
-/// How many cells were fetched and run, and how many samples were kept, by the sessions that were closed into it. Each
-/// number is held at 2^64 - 1.
+/// How many cells were fetched and run by the sessions that were closed into it, and how many samples they kept when
+/// they were closed. A sum above 2^64 - 1 is held at 2^64 - 1.
 #[derive(Clone, Copy, Debug, PartialEq, Eq)]
 pub struct Tally {
     fetched: u64,
@@ -49,7 +49,7 @@ impl Tally {
         self.kept
     }
 
-    /// Raises the three numbers.
+    /// Raises the three numbers, at most to 2^64 - 1.
     pub(crate) fn raise(&mut self, fetched: u64, ran: u64, kept: u64)
         ensures fetched { fetched_of self.new ≡ raised (fetched_of self.old) fetched }
         ensures ran { ran_of self.new ≡ raised (ran_of self.old) ran }

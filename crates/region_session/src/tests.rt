@@ -48,7 +48,7 @@ pub(crate) struct Near<'a> {
 
 impl<'a> Stage for Near<'a> {
     ghost use Rattle.std.specs.Prelude.{◌≤◌, refl};
-    ghost use Rattle.region_session.specs.Examples.{margin, margin_local, margin_part, same_margin, same_most};
+    ghost use Rattle.region_session.specs.inner.Examples.{margin, margin_local, margin_part, same_margin, same_most};
 
     ghost apply = { λ _ P. P };
 
@@ -114,7 +114,12 @@ impl<'a> Base for Whole<'a> {
     ghost use Rattle.std.specs.Prelude.{[], ◌∷◌};
     ghost use Rattle.plane_view.specs.Rectangles.{whole_rect};
 
-    ghost plane = { λ b. record { rows = b.shape.rows; cols = b.shape.cols; planes = b.shape.planes; samples = b.samples.items } };
+    ghost plane = { λ b. record {
+      rows = b.shape.rows;
+      cols = b.shape.cols;
+      planes = b.shape.planes;
+      samples = b.samples.items;
+    } };
 
     ghost cells_of = { λ b. whole_rect b.shape.rows b.shape.cols ∷ [] };
 
@@ -220,8 +225,8 @@ fn numbers(alloc: Global, count: usize) -> Result<Vec<u16>, AllocError>
     Ok(numbers)
 }
 
-/// A session of seven stages over a plane, of which the fifth takes so many rows. The third stage looks two pixels round
-/// itself.
+/// A session of seven stages over a plane, of which the fifth takes so many rows. The third stage looks two pixels
+/// round itself.
 pub(crate) fn open<'a>(
     alloc: Global,
     rows: u32,
@@ -335,8 +340,8 @@ pub(crate) fn put<'a>(
     }
 }
 
-/// The answer to a new stage in the place of stage `k`, which looks one pixel round itself and takes so many rows, and how
-/// far the stage that is there then looks.
+/// The answer to a new stage in the place of stage `k`, which looks one pixel round itself and takes so many rows, and
+/// how far the stage that is there then looks.
 fn replaced(alloc: Global, k: u32, most: u32) -> Option<(Result<(), ShapeChanged>, u32)>
     requires least { 1 ≤ k }
     requires last { k ≤ 7 }

@@ -10,10 +10,12 @@ use Rattle.std.proofs.lemmas.List.{take_all}
 use Rattle.std.proofs.lemmas.List.Sums.{sum_by-cons}
 use Rattle.std.proofs.lemmas.Map.Made.{lookup-map_values}
 use Rattle.lru.specs.LruCache.{LruCache, promoted, put_entries}
+use Rattle.lru.proofs.CallerLemmas.{Contains-lookup_entry}
+use Rattle.lru.proofs.Pairs.{lookup-lookup_entry}
 use Rattle.tile_cache.specs.Pairs.{Cache, Pair}
 use Rattle.tile_cache.specs.Kept.{kept, has_room, put_in}
 use Rattle.tile_cache.specs.Cache.{after_drops, after_put, cache, same_key, size, sizes, total_size}
-use Rattle.tile_cache.specs.Inside.{Entry, entry_size, pair_of}
+use Rattle.tile_cache.specs.inner.Inside.{Entry, entry_size, pair_of}
 use Rattle.tile_cache.specs.declared.Key.{Key}
 use Rattle.tile_cache.proofs.Kept.{dropped_until-take, kept-map, put_in-map, sum_by-kept}
 
@@ -45,16 +47,13 @@ lookup_entry-pairs test (e ∷ es) = go (test e.0) (lookup_entry-pairs test es)
     go true rest = refl
     go false rest = rest
 
+-- a pair that is found passes the test, and its value is the one that is looked up
 found : {K X : Type 0} (test : K → Bool) (es : List (K × X)) (e : K × X) → lookup_entry test es ≡ Some e
     → (test e.0 ≡ true) × (lookup test es ≡ Some e.1)
-found test [] e is = cc
-found test (x ∷ es) e is = (elim (test x.0)
-    as (λ b. test x.0 ≡ b → (test e.0 ≡ true) × (lookup test (x ∷ es) ≡ Some e.1)) [
-      | true ↦ λ t. let here = rw t at is in let same : x ≡ e = cc in (ap (λ y. test y.0) (sym same) ∙ t, rw (t, same) refl)
-      | false ↦ λ t. let on = found test es e (rw t at is) in (on.0, rw t on.1)
-    ]) refl
+found test es e is =
+    ((Contains-lookup_entry test es e is).1, sym (lookup-lookup_entry test es) ∙ ap (option_map (λ entry. entry.1)) is)
 
--- a key that isn't there isn't in a front
+-- a key that isn't there isn't in a prefix
 none-take : (test : Key → Bool) (n : ℕ) (es : List Entry) → lookup test (map pair_of es) ≡ None
     → lookup_entry test (take n es) ≡ None
 none-take test zero es none = refl
@@ -173,8 +172,8 @@ put_front c k v none room =
 pub none-kept : (slots budget n : ℕ) (test : Key → Bool) (es left : List Entry) → lookup test (map pair_of es) ≡ None
     → left ≡ kept entry_size slots budget n es → lookup_entry test left ≡ None
 none-kept slots budget n test es left none is =
-    let front = dropped_until-take (has_room entry_size slots budget n) (length es) es in
-    ap (lookup_entry test) (is ∙ front.1) ∙ none-take test front.0 es none
+    let prefix = dropped_until-take (has_room entry_size slots budget n) (length es) es in
+    ap (lookup_entry test) (is ∙ prefix.1) ∙ none-take test prefix.0 es none
 
 kept-pairs : (slots budget n m : ℕ) (es left : List Entry) → n ≡ m → left ≡ kept entry_size slots budget n es
     → map pair_of left ≡ kept size slots budget m (map pair_of es)

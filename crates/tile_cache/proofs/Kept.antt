@@ -20,7 +20,7 @@ unfolding dropped_until
 dropped_until_less p zero m xs next fails = absurd (omega arith)
 dropped_until_less p (suc n) m xs next fails = let same : n ≡ m = omega arith in rw (fails, same) refl
 
--- it is some front of the list
+-- it is a prefix of the list
 pub dropped_until-take : {X : Type 0} (p : List X → Bool) (n : ℕ) (xs : List X)
     → (k : ℕ) × (dropped_until p n xs ≡ take k xs)
 unfolding dropped_until
@@ -29,8 +29,8 @@ dropped_until-take p (suc n) xs = go (p (take (suc n) xs)) (dropped_until-take p
   where
     go : (b : Bool) → (k : ℕ) × (dropped_until p n xs ≡ take k xs)
         → (k : ℕ) × (cond b (take (suc n) xs) (dropped_until p n xs) ≡ take k xs)
-    go true front = (suc n, refl)
-    go false front = front
+    go true prefix = (suc n, refl)
+    go false prefix = prefix
 
 -- the same is dropped of what the things become by a function that the test doesn't see
 dropped_until-map : {X Y : Type 0} (f : X → Y) (p : List X → Bool) (q : List Y → Bool)
@@ -39,8 +39,8 @@ dropped_until-map : {X Y : Type 0} (f : X → Y) (p : List X → Bool) (q : List
 unfolding dropped_until
 dropped_until-map f p q same zero xs = refl
 dropped_until-map f p q same (suc n) xs =
-    let front = take (suc n) xs in
-    go (p front) (same front ∙ ap q (sym (take-map f (suc n) xs))) (dropped_until-map f p q same n xs)
+    let prefix = take (suc n) xs in
+    go (p prefix) (same prefix ∙ ap q (sym (take-map f (suc n) xs))) (dropped_until-map f p q same n xs)
   where
     go : (b : Bool) → b ≡ q (take (suc n) (map f xs)) → map f (dropped_until p n xs) ≡ dropped_until q n (map f xs)
         → map f (cond b (take (suc n) xs) (dropped_until p n xs))
@@ -87,7 +87,7 @@ room_parts size slots budget n xs room =
     let (fits, short) = and_parts (nat_le (sum_by size xs + n) budget) (nat_lt (length xs) slots) room in
     (leb-true (sum_by size xs + n) budget fits, ltb-true (length xs) slots short)
 
--- ---- fronts of a list
+-- ---- prefixes of a list
 
 pub take-less : {X : Type 0} (m n : ℕ) (xs : List X) → m ≤ n → take m (take n xs) ≡ take m xs
 take-less zero n xs less = refl

@@ -1,4 +1,4 @@
--- What a cache ends as, once a reference into it has ended.
+-- What a cache ends as, once a reference into it has ended. This is this project's own.
 use Rattle.std.specs.Prelude.{◌≡◌, ⊤}
 use Rattle.std.specs.Borrow.{Fml, MutBor, follows_so}
 use mathlib.Core.Option.{none}

@@ -1,5 +1,5 @@
-pub mod Pairs
-pub mod Kept
 pub mod Cache
-pub mod Inside
 pub mod Ends
+pub mod Kept
+pub mod Pairs
+pub mod inner

@@ -9,7 +9,7 @@ ghost use Rattle.std.specs.Map.{lookup, keys_of};
 ghost use Rattle.lru.specs.LruCache.{lru_cache};
 ghost use Rattle.tile_cache.specs.Kept.{kept, has_room, put_in};
 ghost use Rattle.tile_cache.specs.Cache.{cache, same_key, sizes, total_size, after_get, after_drops, after_put};
-ghost use Rattle.tile_cache.specs.Inside.{entry_size};
+ghost use Rattle.tile_cache.specs.inner.Inside.{entry_size};
 ghost use Rattle.tile_cache.specs.Ends.{ends_as};
 
 use lru::LruCache;
@@ -40,7 +40,7 @@ pub struct TileCache {
 
 impl Model for TileCache {
     ghost use Rattle.tile_cache.specs.Pairs.{Cache};
-    ghost use Rattle.tile_cache.specs.Inside.{cache_view, IsSound};
+    ghost use Rattle.tile_cache.specs.inner.Inside.{cache_view, IsSound};
 
     ghost Value = { Cache };
 
@@ -50,7 +50,11 @@ impl Model for TileCache {
 }
 
 impl TileCache {
-    /// An empty cache.
+    /// An empty cache of 1 to 65,536 slots, and of a budget of samples of at most 2^30.
+    ///
+    /// # Errors
+    ///
+    /// Out of memory.
     pub fn new(alloc: Global, slots: u32, budget: u64) -> Result<TileCache, AllocError>
         requires some_slots { 0 < slots }
         requires few_slots { slots ≤ 65536 }
@@ -106,12 +110,14 @@ impl TileCache {
         self.peek(key)
     }
 
+    // The pair of the key, if it is there, comes to the front.
     fn bring_to_front(&mut self, key: &Key)
         ensures { self.new ≡ after_get key.now self.old }
     {
         self.cells.promote(key);
     }
 
+    // The samples of a key's cell, if it is held. The order stays.
     fn peek(&self, key: &Key) -> Option<&[u16]>
         ensures { option_map (λ cell. cell.now) result ≡ lookup (same_key key.now) self.now.pairs }
     {
@@ -122,6 +128,10 @@ impl TileCache {
     }
 
     /// The keys, the most recent first.
+    ///
+    /// # Errors
+    ///
+    /// Out of memory.
     pub fn keys(&self) -> Result<Vec<Key>, AllocError>
         ensures { IfOk result (λ keys. keys.items ≡ keys_of self.now.pairs) }
     {
@@ -134,8 +144,11 @@ impl TileCache {
     }
 
     /// Puts a cell whose key isn't held in front. Cells are dropped from the end until it fits the budget and the
-    /// slots. A cell of more samples than the budget is dropped itself, and the list stays. Where memory is short, the
-    /// cell is dropped after those that made room for it.
+    /// slots. A cell of more samples than the budget is dropped itself, and the list stays.
+    ///
+    /// # Errors
+    ///
+    /// Out of memory; then the cell is dropped, and so are those that made room for it.
     pub fn put(&mut self, key: Key, cell: Vec<u16>) -> Result<(), AllocError>
         requires { lookup (same_key key) self.old.pairs ≡ None }
         ensures stored { OnOk result (self.new ≡ after_put key cell.items self.old) }
@@ -159,6 +172,7 @@ impl TileCache {
     }
 }
 
+// Whether one cell more, of so many samples, fits the budget and the slots.
 fn has_room_for(
     size: u64,
     cells: &LruCache<Key, Vec<u16>>,

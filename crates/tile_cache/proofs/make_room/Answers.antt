@@ -2,7 +2,7 @@ use Rattle.std.proofs.Common.{◌≡◌, ◌∙◌, ◌-◌, ℕ, true, false, l
 use Rattle.std.proofs.lemmas.List.{length-take-le}
 use Rattle.lru.specs.LruCache.{lru_cache}
 use Rattle.tile_cache.specs.Kept.{has_room, kept}
-use Rattle.tile_cache.specs.Inside.{Entry, entry_size}
+use Rattle.tile_cache.specs.inner.Inside.{Entry, entry_size}
 use Rattle.tile_cache.proofs.Kept.{dropped_until_done, dropped_until_less, take-less}
 use Rattle.tile_cache.proofs.Entries.{popped, some_length}
 use Rattle.tile_cache.proofs.make_room.Goals as goal
@@ -23,13 +23,13 @@ drops-preserved c =
     let sum = popped entry_size es last (sym c.in-Some.ensures.value) in
     let count : length (take (length es - 1) es) ≡ length es - 1 = length-take-le (length es - 1) es (omega arith) in
     let part : take (length es - 1) es ≡ take (length es - 1) all =
-    ap (λ (xs : List Entry). take (length es - 1) xs) c.drops.invariant.front
+    ap (λ (xs : List Entry). take (length es - 1) xs) c.drops.invariant.prefix
     ∙ take-less (length es - 1) (length es) all (omega arith) in
     let full : p (take (length es) all) ≡ false =
-    ap p (sym c.drops.invariant.front) ∙ (sym c.has_room_for.ensures ∙ c.drops-test.true) in
+    ap p (sym c.drops.invariant.prefix) ∙ (sym c.has_room_for.ensures ∙ c.drops-test.true) in
     let less = dropped_until_less p (length es) (length es - 1) all (omega arith) full in
     rw (c.pop_lru.ensures.entries, count) (record {
-      front = part;
+      prefix = part;
       shorter = omega (arith, c.drops.invariant.shorter);
       same = sym less ∙ c.drops.invariant.same;
       room = c.drops.invariant.room;
@@ -43,8 +43,8 @@ returns-clause-entries c =
     let all = c.args.cells.now.entries in
     let p = has_room entry_size c.args.slots c.args.budget c.args.size in
     let room : p (take (length es) all) ≡ true =
-    ap p (sym c.drops.invariant.front) ∙ (sym c.has_room_for.ensures ∙ c.drops-test.false) in
+    ap p (sym c.drops.invariant.prefix) ∙ (sym c.has_room_for.ensures ∙ c.drops-test.false) in
     let same : es ≡ kept entry_size c.args.slots c.args.budget c.args.size all =
-    c.drops.invariant.front ∙ (sym (dropped_until_done p (length es) all room) ∙ c.drops.invariant.same) in
+    c.drops.invariant.prefix ∙ (sym (dropped_until_done p (length es) all room) ∙ c.drops.invariant.same) in
     ap (λ (xs : List Entry). lru_cache xs c.drops.cells.cap) same
     ∙ ap (λ (n : ℕ). lru_cache (kept entry_size c.args.slots c.args.budget c.args.size all) n) c.drops.invariant.room

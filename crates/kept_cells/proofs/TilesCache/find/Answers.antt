@@ -28,28 +28,32 @@ pub returns-in-Some-clause-held : goal.returns-in-Some-clause-held
 returns-in-Some-clause-held c =
     let old = c.args.self.now in
     let stamps : List ℕ = old.stamps.stamps in
-    let is : c.get.follows.lender-at-none ≡ after_get (key_at (kept_in old.cells stamps) c.args.plane c.args.cell) old.cells = c.get.follows.holds-at-none ∙ ap (λ (k : Key). after_get k old.cells) c.key-key.ensures.key in
+    let is : c.get.follows.lender-at-none ≡ after_get (key_at (kept_in old.cells stamps) c.args.plane c.args.cell)
+    old.cells = c.get.follows.holds-at-none ∙ ap (λ (k : Key). after_get k old.cells) c.key-key.ensures.key in
     found_held old.cells _ stamps c.args.plane c.args.cell is
 
 pub returns-in-Some-clause-brings : goal.returns-in-Some-clause-brings
 returns-in-Some-clause-brings c =
     let old = c.args.self.now in
     let stamps : List ℕ = old.stamps.stamps in
-    let is : c.get.follows.lender-at-none ≡ after_get (key_at (kept_in old.cells stamps) c.args.plane c.args.cell) old.cells = c.get.follows.holds-at-none ∙ ap (λ (k : Key). after_get k old.cells) c.key-key.ensures.key in
+    let is : c.get.follows.lender-at-none ≡ after_get (key_at (kept_in old.cells stamps) c.args.plane c.args.cell)
+    old.cells = c.get.follows.holds-at-none ∙ ap (λ (k : Key). after_get k old.cells) c.key-key.ensures.key in
     λ _. found_kept old.cells _ stamps c.args.plane c.args.cell is
 
 pub returns-in-None-clause-held : goal.returns-in-None-clause-held
 returns-in-None-clause-held c =
     let old = c.args.self.now in
     let stamps : List ℕ = old.stamps.stamps in
-    let is : c.get.follows.lender-at-none ≡ after_get (key_at (kept_in old.cells stamps) c.args.plane c.args.cell) old.cells = c.get.follows.holds-at-none ∙ ap (λ (k : Key). after_get k old.cells) c.key-key.ensures.key in
+    let is : c.get.follows.lender-at-none ≡ after_get (key_at (kept_in old.cells stamps) c.args.plane c.args.cell)
+    old.cells = c.get.follows.holds-at-none ∙ ap (λ (k : Key). after_get k old.cells) c.key-key.ensures.key in
     found_held old.cells _ stamps c.args.plane c.args.cell is
 
 pub returns-in-None-clause-leaves : goal.returns-in-None-clause-leaves
 returns-in-None-clause-leaves c =
     let old = c.args.self.now in
     let stamps : List ℕ = old.stamps.stamps in
-    let is : c.get.follows.lender-at-none ≡ after_get (key_at (kept_in old.cells stamps) c.args.plane c.args.cell) old.cells = c.get.follows.holds-at-none ∙ ap (λ (k : Key). after_get k old.cells) c.key-key.ensures.key in
+    let is : c.get.follows.lender-at-none ≡ after_get (key_at (kept_in old.cells stamps) c.args.plane c.args.cell)
+    old.cells = c.get.follows.holds-at-none ∙ ap (λ (k : Key). after_get k old.cells) c.key-key.ensures.key in
     λ _. unfound_kept old.cells _ stamps c.args.plane c.args.cell is
     (ap (λ (k : Key). is_some (lookup (same_key k) old.cells.pairs)) (sym c.key-key.ensures.key)
     ∙ ap is_some (sym c.get.ensures.samples)

@@ -19,10 +19,13 @@ returns-clause-takes c =
     let xs = c.in_ok-samples.samples.items in
     let taken : Takes (held_in old.cells stamps) (held_in c.put.new.self stamps) c.args.plane c.args.cell xs =
     either c.put.result _ _ _
-    (λ (is : c.put.new.self ≡ after_put c.key-key.result xs old.cells). stored_takes old.cells _ stamps c.args.plane c.args.cell xs c.requires.absent (is ∙ ap (λ (k : Key). after_put k xs old.cells) c.key-key.ensures.key))
-    (λ (is : c.put.new.self ≡ after_drops (length xs) old.cells). refused_takes old.cells _ stamps c.args.plane c.args.cell (length xs) xs c.requires.absent is)
+    (λ (is : c.put.new.self ≡ after_put c.key-key.result xs old.cells). stored_takes old.cells _ stamps c.args.plane
+    c.args.cell xs c.requires.absent (is ∙ ap (λ (k : Key). after_put k xs old.cells) c.key-key.ensures.key))
+    (λ (is : c.put.new.self ≡ after_drops (length xs) old.cells). refused_takes old.cells _ stamps c.args.plane
+    c.args.cell (length xs) xs c.requires.absent is)
     c.put.ensures.stored c.put.ensures.refused in
-    subst (λ (ys : List ℕ). Takes (held_in old.cells stamps) (held_in c.put.new.self stamps) c.args.plane c.args.cell ys) c.in_ok-samples.ensures.samples taken
+    subst (λ (ys : List ℕ). Takes (held_in old.cells stamps) (held_in c.put.new.self stamps) c.args.plane c.args.cell
+    ys) c.in_ok-samples.ensures.samples taken
 
 pub invariant_of-self : goal.invariant_of-self
 invariant_of-self c =
@@ -31,12 +34,16 @@ invariant_of-self c =
     record {
       keys =
           either c.put.result _ _ _
-          (λ (is : c.put.new.self ≡ after_put c.key-key.result xs old.cells). stored_keys old.cells _ old.stamps.changes c.key-key.result xs old.keys c.key-key.ensures.stamp is)
-          (λ (is : c.put.new.self ≡ after_drops (length xs) old.cells). refused_keys old.cells _ old.stamps.changes (length xs) old.keys is)
+          (λ (is : c.put.new.self ≡ after_put c.key-key.result xs old.cells). stored_keys old.cells _ old.stamps.changes
+          c.key-key.result xs old.keys c.key-key.ensures.stamp is)
+          (λ (is : c.put.new.self ≡ after_drops (length xs) old.cells). refused_keys old.cells _ old.stamps.changes
+          (length xs) old.keys is)
           c.put.ensures.stored c.put.ensures.refused;
       same =
           either c.put.result _ _ _
-          (λ (is : c.put.new.self ≡ after_put c.key-key.result xs old.cells). old.same ∙ sym (ap (λ (d : Cache). d.budget) is))
-          (λ (is : c.put.new.self ≡ after_drops (length xs) old.cells). old.same ∙ sym (ap (λ (d : Cache). d.budget) is))
+          (λ (is : c.put.new.self ≡ after_put c.key-key.result xs old.cells). old.same
+          ∙ sym (ap (λ (d : Cache). d.budget) is))
+          (λ (is : c.put.new.self ≡ after_drops (length xs) old.cells). old.same
+          ∙ sym (ap (λ (d : Cache). d.budget) is))
           c.put.ensures.stored c.put.ensures.refused;
     }

@@ -1,4 +1,5 @@
-use Rattle.std.proofs.Common.{rules, ◌≡◌, ℕ, ◌+◌, ◌<◌, ◌≤◌, List, [], ◌∷◌, ◌++◌, length, map, false, refl, sym, ◌∙◌, ap, subst, arith}
+use Rattle.std.proofs.Common.{rules, ◌≡◌, ℕ, ◌+◌, ◌<◌, ◌≤◌, List, [], ◌∷◌, ◌++◌, length, map, false, refl, sym, ◌∙◌, ap}
+use Rattle.std.proofs.Common.{subst, arith}
 use Rattle.std.specs.List.{All}
 use Rattle.std.specs.List.Sorted.{IsStrictlyIncreasing}
 use Rattle.std.proofs.lemmas.Bool.{eqb-true}
@@ -22,16 +23,18 @@ use Rattle.stage_deps.proofs.GridCells.{grid_makes_up}
 use Rattle.kept_cells.specs.Held.{AreRight, Held, IsRight, TakesUpTo, fresh, missing}
 use Rattle.kept_cells.specs.Kept.{Kept, Marks, brought_each, keep, put_each, size_of}
 use Rattle.kept_cells.specs.Missing.{count_of_fetches, count_of_runs, needs_of}
-use Rattle.kept_cells.specs.Tiers.{Tier, developed, tiers_of}
+use Rattle.kept_cells.specs.Tiers.{Tier, tiers_of}
 use Rattle.kept_cells.proofs.Keeping.{absent_later, keep_same, keep_top, missing_rises}
-use Rattle.kept_cells.proofs.Lower.{fetches_same, fetches_top, missing_bounds, right_same, rights_lower, rights_run, rights_same, runs_same, runs_top, takes_lower, takes_run}
+use Rattle.kept_cells.proofs.Lower.{developed, fetches_same, fetches_top, missing_bounds, right_same, rights_lower}
+use Rattle.kept_cells.proofs.Lower.{rights_run, rights_same, runs_same, runs_top, takes_lower, takes_run}
 use Rattle.region_session.specs.declared.layers.Layer.{Layer}
-use Rattle.region_session.specs.Parts.{HasCells, Shows}
+use Rattle.region_session.specs.inner.Parts.{HasCells, Shows}
 use Rattle.region_session.specs.Stacks.{last_shape}
 use Rattle.region_session.proofs.Copying.{filled_from, missing_told}
 use Rattle.region_session.proofs.Counting.{raised_none}
 use Rattle.region_session.proofs.Covering.{cells_are_parts, shows_wanted}
-use Rattle.region_session.proofs.Tiering.{developed_is, fetches_none, held_on_top, keep_none, on_top, runs_none, tier_on, tiers_length}
+use Rattle.region_session.proofs.Tiering.{developed_is, fetches_none, held_on_top, keep_none, on_top, runs_none}
+use Rattle.region_session.proofs.Tiering.{tier_on, tiers_length}
 use Rattle.region_session.proofs.Top.{as_many, top_of}
 use Rattle.region_session.proofs.bands.+make.Goals as goal
 
@@ -43,69 +46,112 @@ none_of (x ∷ xs) none = absurd (omega arith)
 pub unreachable-requires-in_default-split_last-2 : goal.unreachable-requires-in_default-split_last-2
 unreachable-requires-in_default-split_last-2 g t c =
     let P : Plane = g.B.Base.plane c.args.source.now.base in
-    omega (arith, as_many g.S.Stage.takes g.S.Stage.shaped (shape_of P) c.args.stages.now c.args.layers.now c.requires.layers, c.in_default-split_last-2.ensures.cases, c.in-Some-split_last.ensures.cases.1)
+    omega (
+      arith,
+      as_many g.S.Stage.takes g.S.Stage.shaped (shape_of P) c.args.stages.now c.args.layers.now
+          c.requires.layers,
+      c.in_default-split_last-2.ensures.cases,
+      c.in-Some-split_last.ensures.cases.1,
+    )
 
 pub new-grid-requires-clause-shape : goal.new-grid-requires-clause-shape
 new-grid-requires-clause-shape g t c =
     let P : Plane = g.B.Base.plane c.args.source.now.base in
     let input : Shape = shape_of P in
-    let top = top_of g.S.Stage.takes g.S.Stage.shaped input c.args.stages.now c.in-Some-split_last.below.now c.in-Some-split_last.stage.now c.args.layers.now c.in-Some-split_last-2.lower_layers.now c.in-Some-split_last-2.layer.now c.in-Some-split_last.ensures.cases.0 c.in-Some-split_last-2.ensures.cases.0 c.requires.layers in
-    subst IsShape (sym top.is.shape) (g.met.S.Stage.makes_shapes c.in-Some-split_last.stage.now c.in-Some-split_last-2.layer.now.input top.is.input top.is.taken)
+    let top = top_of g.S.Stage.takes g.S.Stage.shaped input c.args.stages.now c.in-Some-split_last.below.now
+    c.in-Some-split_last.stage.now c.args.layers.now c.in-Some-split_last-2.lower_layers.now
+    c.in-Some-split_last-2.layer.now c.in-Some-split_last.ensures.cases.0 c.in-Some-split_last-2.ensures.cases.0
+    c.requires.layers in
+    subst IsShape (sym top.is.shape) (g.met.S.Stage.makes_shapes c.in-Some-split_last.stage.now
+    c.in-Some-split_last-2.layer.now.input top.is.input top.is.taken)
 
 pub open_wanted-requires-clause-shape : goal.open_wanted-requires-clause-shape
 open_wanted-requires-clause-shape g t c =
     let P : Plane = g.B.Base.plane c.args.source.now.base in
-    let top = on_top g.S.Stage.takes g.S.Stage.shaped g.S.Stage.apply g.met.S.Stage.makes_shapes g.met.S.Stage.makes_planes P c.shape-shape.result c.shape-shape.ensures.shape c.shape-shape.ensures.plane c.args.side c.args.stages.now c.in-Some-split_last.below.now c.in-Some-split_last.stage.now c.args.layers.now c.in-Some-split_last-2.lower_layers.now c.in-Some-split_last-2.layer.now c.new-grid.result
-    c.in-Some-split_last.ensures.cases.0 (omega (arith, c.in-Some-split_last.ensures.cases.1)) c.in-Some-split_last-2.ensures.cases.0 c.requires.layers c.new-grid.ensures.shape c.new-grid.ensures.side in
+    let top = on_top g.S.Stage.takes g.S.Stage.shaped g.S.Stage.apply g.met.S.Stage.makes_shapes
+    g.met.S.Stage.makes_planes P c.shape-shape.result c.shape-shape.ensures.shape c.shape-shape.ensures.plane
+    c.args.side c.args.stages.now c.in-Some-split_last.below.now c.in-Some-split_last.stage.now c.args.layers.now
+    c.in-Some-split_last-2.lower_layers.now c.in-Some-split_last-2.layer.now c.new-grid.result
+    c.in-Some-split_last.ensures.cases.0 (omega (arith, c.in-Some-split_last.ensures.cases.1))
+    c.in-Some-split_last-2.ensures.cases.0 c.requires.layers c.new-grid.ensures.shape c.new-grid.ensures.side in
     top.input
 
 pub open_wanted-requires-clause-takes : goal.open_wanted-requires-clause-takes
 open_wanted-requires-clause-takes g t c =
     let P : Plane = g.B.Base.plane c.args.source.now.base in
-    let top = on_top g.S.Stage.takes g.S.Stage.shaped g.S.Stage.apply g.met.S.Stage.makes_shapes g.met.S.Stage.makes_planes P c.shape-shape.result c.shape-shape.ensures.shape c.shape-shape.ensures.plane c.args.side c.args.stages.now c.in-Some-split_last.below.now c.in-Some-split_last.stage.now c.args.layers.now c.in-Some-split_last-2.lower_layers.now c.in-Some-split_last-2.layer.now c.new-grid.result
-    c.in-Some-split_last.ensures.cases.0 (omega (arith, c.in-Some-split_last.ensures.cases.1)) c.in-Some-split_last-2.ensures.cases.0 c.requires.layers c.new-grid.ensures.shape c.new-grid.ensures.side in
+    let top = on_top g.S.Stage.takes g.S.Stage.shaped g.S.Stage.apply g.met.S.Stage.makes_shapes
+    g.met.S.Stage.makes_planes P c.shape-shape.result c.shape-shape.ensures.shape c.shape-shape.ensures.plane
+    c.args.side c.args.stages.now c.in-Some-split_last.below.now c.in-Some-split_last.stage.now c.args.layers.now
+    c.in-Some-split_last-2.lower_layers.now c.in-Some-split_last-2.layer.now c.new-grid.result
+    c.in-Some-split_last.ensures.cases.0 (omega (arith, c.in-Some-split_last.ensures.cases.1))
+    c.in-Some-split_last-2.ensures.cases.0 c.requires.layers c.new-grid.ensures.shape c.new-grid.ensures.side in
     top.taken
 
 pub open_wanted-requires-clause-grid : goal.open_wanted-requires-clause-grid
 open_wanted-requires-clause-grid g t c =
     let P : Plane = g.B.Base.plane c.args.source.now.base in
-    let top = on_top g.S.Stage.takes g.S.Stage.shaped g.S.Stage.apply g.met.S.Stage.makes_shapes g.met.S.Stage.makes_planes P c.shape-shape.result c.shape-shape.ensures.shape c.shape-shape.ensures.plane c.args.side c.args.stages.now c.in-Some-split_last.below.now c.in-Some-split_last.stage.now c.args.layers.now c.in-Some-split_last-2.lower_layers.now c.in-Some-split_last-2.layer.now c.new-grid.result
-    c.in-Some-split_last.ensures.cases.0 (omega (arith, c.in-Some-split_last.ensures.cases.1)) c.in-Some-split_last-2.ensures.cases.0 c.requires.layers c.new-grid.ensures.shape c.new-grid.ensures.side in
+    let top = on_top g.S.Stage.takes g.S.Stage.shaped g.S.Stage.apply g.met.S.Stage.makes_shapes
+    g.met.S.Stage.makes_planes P c.shape-shape.result c.shape-shape.ensures.shape c.shape-shape.ensures.plane
+    c.args.side c.args.stages.now c.in-Some-split_last.below.now c.in-Some-split_last.stage.now c.args.layers.now
+    c.in-Some-split_last-2.lower_layers.now c.in-Some-split_last-2.layer.now c.new-grid.result
+    c.in-Some-split_last.ensures.cases.0 (omega (arith, c.in-Some-split_last.ensures.cases.1))
+    c.in-Some-split_last-2.ensures.cases.0 c.requires.layers c.new-grid.ensures.shape c.new-grid.ensures.side in
     top.grid
 
 pub open_wanted-requires-clause-sizes : goal.open_wanted-requires-clause-sizes
 open_wanted-requires-clause-sizes g t c =
     let P : Plane = g.B.Base.plane c.args.source.now.base in
     let input : Shape = shape_of P in
-    let top = on_top g.S.Stage.takes g.S.Stage.shaped g.S.Stage.apply g.met.S.Stage.makes_shapes g.met.S.Stage.makes_planes P c.shape-shape.result c.shape-shape.ensures.shape c.shape-shape.ensures.plane c.args.side c.args.stages.now c.in-Some-split_last.below.now c.in-Some-split_last.stage.now c.args.layers.now c.in-Some-split_last-2.lower_layers.now c.in-Some-split_last-2.layer.now c.new-grid.result
-    c.in-Some-split_last.ensures.cases.0 (omega (arith, c.in-Some-split_last.ensures.cases.1)) c.in-Some-split_last-2.ensures.cases.0 c.requires.layers c.new-grid.ensures.shape c.new-grid.ensures.side in
+    let top = on_top g.S.Stage.takes g.S.Stage.shaped g.S.Stage.apply g.met.S.Stage.makes_shapes
+    g.met.S.Stage.makes_planes P c.shape-shape.result c.shape-shape.ensures.shape c.shape-shape.ensures.plane
+    c.args.side c.args.stages.now c.in-Some-split_last.below.now c.in-Some-split_last.stage.now c.args.layers.now
+    c.in-Some-split_last-2.lower_layers.now c.in-Some-split_last-2.layer.now c.new-grid.result
+    c.in-Some-split_last.ensures.cases.0 (omega (arith, c.in-Some-split_last.ensures.cases.1))
+    c.in-Some-split_last-2.ensures.cases.0 c.requires.layers c.new-grid.ensures.shape c.new-grid.ensures.side in
     let held : Held = g.C.Cache.held c.args.cache.now in
-    let kept = held_on_top g.S.Stage.takes g.S.Stage.shaped g.S.Stage.apply held input P c.args.side c.args.stages.now c.in-Some-split_last.below.now c.in-Some-split_last.stage.now c.in-Some-split_last-2.lower_layers.now c.in-Some-split_last-2.layer.now c.new-grid.result top c.requires.right in
+    let kept = held_on_top g.S.Stage.takes g.S.Stage.shaped g.S.Stage.apply held input P c.args.side c.args.stages.now
+    c.in-Some-split_last.below.now c.in-Some-split_last.stage.now c.in-Some-split_last-2.lower_layers.now
+    c.in-Some-split_last-2.layer.now c.new-grid.result top c.requires.right in
     kept.sizes
 
 pub returns-in_err-open_wanted-clause-right : goal.returns-in_err-open_wanted-clause-right
 returns-in_err-open_wanted-clause-right g t c =
     let P : Plane = g.B.Base.plane c.args.source.now.base in
-    rights_same g.S.Stage.apply (g.C.Cache.held c.args.cache.now) (g.C.Cache.held c.open_wanted.new.cache) P (tiers_of g.S.Stage.shaped c.args.side (shape_of P) c.args.stages.now) c.open_wanted.ensures.held c.requires.right
+    rights_same g.S.Stage.apply (g.C.Cache.held c.args.cache.now) (g.C.Cache.held c.open_wanted.new.cache) P
+    (tiers_of g.S.Stage.shaped c.args.side (shape_of P) c.args.stages.now) c.open_wanted.ensures.held
+    c.requires.right
 
 pub returns-then-is_empty-clause-right : goal.returns-then-is_empty-clause-right
 returns-then-is_empty-clause-right g t c =
     let P : Plane = g.B.Base.plane c.args.source.now.base in
-    rights_same g.S.Stage.apply (g.C.Cache.held c.args.cache.now) (g.C.Cache.held c.open_wanted.new.cache) P (tiers_of g.S.Stage.shaped c.args.side (shape_of P) c.args.stages.now) c.open_wanted.ensures.held c.requires.right
+    rights_same g.S.Stage.apply (g.C.Cache.held c.args.cache.now) (g.C.Cache.held c.open_wanted.new.cache) P
+    (tiers_of g.S.Stage.shaped c.args.side (shape_of P) c.args.stages.now) c.open_wanted.ensures.held
+    c.requires.right
 
 pub returns-then-is_empty-clause-whole : goal.returns-then-is_empty-clause-whole
 returns-then-is_empty-clause-whole g t c =
     let P : Plane = g.B.Base.plane c.args.source.now.base in
     let input : Shape = shape_of P in
-    let top = on_top g.S.Stage.takes g.S.Stage.shaped g.S.Stage.apply g.met.S.Stage.makes_shapes g.met.S.Stage.makes_planes P c.shape-shape.result c.shape-shape.ensures.shape c.shape-shape.ensures.plane c.args.side c.args.stages.now c.in-Some-split_last.below.now c.in-Some-split_last.stage.now c.args.layers.now c.in-Some-split_last-2.lower_layers.now c.in-Some-split_last-2.layer.now c.new-grid.result
-    c.in-Some-split_last.ensures.cases.0 (omega (arith, c.in-Some-split_last.ensures.cases.1)) c.in-Some-split_last-2.ensures.cases.0 c.requires.layers c.new-grid.ensures.shape c.new-grid.ensures.side in
-    subst (λ (X : Plane). IsPlane X (last_shape g.S.Stage.shaped input c.args.stages.now)) (sym top.whole) (subst (λ (t : Shape). IsPlane (g.S.Stage.apply c.in-Some-split_last.stage.now (whole_of g.S.Stage.apply c.in-Some-split_last.below.now P)) t) (sym top.last) top.own)
+    let top = on_top g.S.Stage.takes g.S.Stage.shaped g.S.Stage.apply g.met.S.Stage.makes_shapes
+    g.met.S.Stage.makes_planes P c.shape-shape.result c.shape-shape.ensures.shape c.shape-shape.ensures.plane
+    c.args.side c.args.stages.now c.in-Some-split_last.below.now c.in-Some-split_last.stage.now c.args.layers.now
+    c.in-Some-split_last-2.lower_layers.now c.in-Some-split_last-2.layer.now c.new-grid.result
+    c.in-Some-split_last.ensures.cases.0 (omega (arith, c.in-Some-split_last.ensures.cases.1))
+    c.in-Some-split_last-2.ensures.cases.0 c.requires.layers c.new-grid.ensures.shape c.new-grid.ensures.side in
+    subst (λ (X : Plane). IsPlane X (last_shape g.S.Stage.shaped input c.args.stages.now)) (sym top.whole)
+    (subst (λ (t : Shape). IsPlane
+    (g.S.Stage.apply c.in-Some-split_last.stage.now (whole_of g.S.Stage.apply c.in-Some-split_last.below.now P)) t)
+    (sym top.last) top.own)
 
 pub returns-then-is_empty-clause-planes : goal.returns-then-is_empty-clause-planes
 returns-then-is_empty-clause-planes g t c =
     let P : Plane = g.B.Base.plane c.args.source.now.base in
-    let top = on_top g.S.Stage.takes g.S.Stage.shaped g.S.Stage.apply g.met.S.Stage.makes_shapes g.met.S.Stage.makes_planes P c.shape-shape.result c.shape-shape.ensures.shape c.shape-shape.ensures.plane c.args.side c.args.stages.now c.in-Some-split_last.below.now c.in-Some-split_last.stage.now c.args.layers.now c.in-Some-split_last-2.lower_layers.now c.in-Some-split_last-2.layer.now c.new-grid.result
-    c.in-Some-split_last.ensures.cases.0 (omega (arith, c.in-Some-split_last.ensures.cases.1)) c.in-Some-split_last-2.ensures.cases.0 c.requires.layers c.new-grid.ensures.shape c.new-grid.ensures.side in
+    let top = on_top g.S.Stage.takes g.S.Stage.shaped g.S.Stage.apply g.met.S.Stage.makes_shapes
+    g.met.S.Stage.makes_planes P c.shape-shape.result c.shape-shape.ensures.shape c.shape-shape.ensures.plane
+    c.args.side c.args.stages.now c.in-Some-split_last.below.now c.in-Some-split_last.stage.now c.args.layers.now
+    c.in-Some-split_last-2.lower_layers.now c.in-Some-split_last-2.layer.now c.new-grid.result
+    c.in-Some-split_last.ensures.cases.0 (omega (arith, c.in-Some-split_last.ensures.cases.1))
+    c.in-Some-split_last-2.ensures.cases.0 c.requires.layers c.new-grid.ensures.shape c.new-grid.ensures.side in
     c.in_ok-open_wanted.ensures.planes ∙ ap (λ (t : Shape). t.planes) (sym top.last)
 
 pub returns-then-is_empty-clause-shows : goal.returns-then-is_empty-clause-shows
@@ -117,26 +163,37 @@ returns-then-is_empty-clause-shows g t c =
     let stage = c.in-Some-split_last.stage.now in
     let below = c.in-Some-split_last.below.now in
     let grid : Grid = c.new-grid.result in
-    let top = on_top g.S.Stage.takes g.S.Stage.shaped apply g.met.S.Stage.makes_shapes g.met.S.Stage.makes_planes P c.shape-shape.result c.shape-shape.ensures.shape c.shape-shape.ensures.plane c.args.side all below stage c.args.layers.now c.in-Some-split_last-2.lower_layers.now c.in-Some-split_last-2.layer.now grid
-    c.in-Some-split_last.ensures.cases.0 (omega (arith, c.in-Some-split_last.ensures.cases.1)) c.in-Some-split_last-2.ensures.cases.0 c.requires.layers c.new-grid.ensures.shape c.new-grid.ensures.side in
+    let top = on_top g.S.Stage.takes g.S.Stage.shaped apply g.met.S.Stage.makes_shapes g.met.S.Stage.makes_planes P
+    c.shape-shape.result c.shape-shape.ensures.shape c.shape-shape.ensures.plane c.args.side all below stage
+    c.args.layers.now c.in-Some-split_last-2.lower_layers.now c.in-Some-split_last-2.layer.now grid
+    c.in-Some-split_last.ensures.cases.0 (omega (arith, c.in-Some-split_last.ensures.cases.1))
+    c.in-Some-split_last-2.ensures.cases.0 c.requires.layers c.new-grid.ensures.shape c.new-grid.ensures.side in
     let cells : List Rect = grid_cells grid.shape grid.side in
     let plane : ℕ = length all in
     let held : Held = g.C.Cache.held c.args.cache.now in
     let wanted : List Rect = c.args.wanted.now in
-    let kept = held_on_top g.S.Stage.takes g.S.Stage.shaped apply held input P c.args.side all below stage c.in-Some-split_last-2.lower_layers.now c.in-Some-split_last-2.layer.now grid top c.requires.right in
+    let kept = held_on_top g.S.Stage.takes g.S.Stage.shaped apply held input P c.args.side all below stage
+    c.in-Some-split_last-2.lower_layers.now c.in-Some-split_last-2.layer.now grid top c.requires.right in
     let numbers : List ℕ = meeting cells wanted in
     let gone : List ℕ = missing held plane numbers in
-    let empty : c.open_wanted.new.own.missing.items ≡ [] = none_of c.open_wanted.new.own.missing.items (omega (arith, eqb-true _ _ (sym c.is_empty.ensures ∙ c.if-is_empty.true), c.open_wanted.new.own.missing.ok)) in
+    let empty : c.open_wanted.new.own.missing.items ≡ [] =
+    none_of c.open_wanted.new.own.missing.items
+    (omega (arith, eqb-true _ _ (sym c.is_empty.ensures ∙ c.if-is_empty.true), c.open_wanted.new.own.missing.ok)) in
     let none : gone ≡ [] = sym c.in_ok-open_wanted.ensures.missing ∙ empty in
-    let parts : All (λ (rect : Rect). IsPart rect grid.shape) wanted = subst (λ (t : Shape). All (λ (rect : Rect). IsPart rect t) wanted) top.last c.requires.wanted in
+    let parts : All (λ (rect : Rect). IsPart rect grid.shape) wanted =
+    subst (λ (t : Shape). All (λ (rect : Rect). IsPart rect t) wanted) top.last c.requires.wanted in
     let up = grid_makes_up grid.shape grid.side (omega (arith, grid.least)) in
     let R : Plane = apply stage (whole_of apply below P) in
     let patch : Lent = c.open_wanted.new.patch in
-    let had : HasCells R patch wanted cells (fresh held plane numbers) = c.in_ok-open_wanted.ensures.cells R top.own.shape.planes kept.right in
-    let more : fresh held plane numbers ++ gone ≡ fresh held plane numbers = ap (λ (xs : List ℕ). fresh held plane numbers ++ xs) none ∙ append-nil (fresh held plane numbers) in
-    let filled : HasCells R patch wanted cells (fresh held plane numbers ++ gone) = subst (λ (xs : List ℕ). HasCells R patch wanted cells xs) (sym more) had in
+    let had : HasCells R patch wanted cells (fresh held plane numbers) =
+    c.in_ok-open_wanted.ensures.cells R top.own.shape.planes kept.right in
+    let more : fresh held plane numbers ++ gone ≡ fresh held plane numbers =
+    ap (λ (xs : List ℕ). fresh held plane numbers ++ xs) none ∙ append-nil (fresh held plane numbers) in
+    let filled : HasCells R patch wanted cells (fresh held plane numbers ++ gone) =
+    subst (λ (xs : List ℕ). HasCells R patch wanted cells xs) (sym more) had in
     subst (λ (X : Plane). All (Shows X patch) wanted) (sym top.whole)
-    (shows_wanted R patch grid.shape cells wanted up parts c.in_ok-open_wanted.ensures.lie (filled_from R patch wanted cells held plane numbers filled))
+    (shows_wanted R patch grid.shape cells wanted up parts c.in_ok-open_wanted.ensures.lie
+    (filled_from R patch wanted cells held plane numbers filled))
 
 pub returns-then-is_empty-clause-work : goal.returns-then-is_empty-clause-work
 returns-then-is_empty-clause-work g t c =
@@ -148,8 +205,11 @@ returns-then-is_empty-clause-work g t c =
     let layer : Layer = c.in-Some-split_last-2.layer.now in
     let grid : Grid = c.new-grid.result in
     let side : ℕ = c.args.side in
-    let top = on_top g.S.Stage.takes g.S.Stage.shaped g.S.Stage.apply g.met.S.Stage.makes_shapes g.met.S.Stage.makes_planes P c.shape-shape.result c.shape-shape.ensures.shape c.shape-shape.ensures.plane side all c.in-Some-split_last.below.now stage c.args.layers.now c.in-Some-split_last-2.lower_layers.now layer grid
-    c.in-Some-split_last.ensures.cases.0 (omega (arith, c.in-Some-split_last.ensures.cases.1)) c.in-Some-split_last-2.ensures.cases.0 c.requires.layers c.new-grid.ensures.shape c.new-grid.ensures.side in
+    let top = on_top g.S.Stage.takes g.S.Stage.shaped g.S.Stage.apply g.met.S.Stage.makes_shapes
+    g.met.S.Stage.makes_planes P c.shape-shape.result c.shape-shape.ensures.shape c.shape-shape.ensures.plane side
+    all c.in-Some-split_last.below.now stage c.args.layers.now c.in-Some-split_last-2.lower_layers.now layer grid
+    c.in-Some-split_last.ensures.cases.0 (omega (arith, c.in-Some-split_last.ensures.cases.1))
+    c.in-Some-split_last-2.ensures.cases.0 c.requires.layers c.new-grid.ensures.shape c.new-grid.ensures.side in
     let cells : List Rect = grid_cells grid.shape grid.side in
     let plane : ℕ = length all in
     let tier : Tier _ = tier_on stage layer grid in
@@ -159,15 +219,22 @@ returns-then-is_empty-clause-work g t c =
     let wanted : List Rect = c.args.wanted.now in
     let numbers : List ℕ = meeting cells wanted in
     let gone : List ℕ = missing held plane numbers in
-    let empty : c.open_wanted.new.own.missing.items ≡ [] = none_of c.open_wanted.new.own.missing.items (omega (arith, eqb-true _ _ (sym c.is_empty.ensures ∙ c.if-is_empty.true), c.open_wanted.new.own.missing.ok)) in
+    let empty : c.open_wanted.new.own.missing.items ≡ [] =
+    none_of c.open_wanted.new.own.missing.items
+    (omega (arith, eqb-true _ _ (sym c.is_empty.ensures ∙ c.if-is_empty.true), c.open_wanted.new.own.missing.ok)) in
     let none : gone ≡ [] = sym c.in_ok-open_wanted.ensures.missing ∙ empty in
-    let wants : needs_of held need plane tier wanted ≡ [] = ap (λ (xs : List ℕ). map (need stage layer.input) (cells_at cells xs)) none in
+    let wants : needs_of held need plane tier wanted ≡ [] =
+    ap (λ (xs : List ℕ). map (need stage layer.input) (cells_at cells xs)) none in
     let base_cells : List Rect = g.B.Base.cells_of c.args.source.now.base in
     let fetches : count_of_fetches held need base_cells all_tiers wanted ≡ 0 =
-    fetches_top held need base_cells all_tiers tiers tier wanted plane top.tiers top.plane ∙ ap (λ (xs : List Rect). count_of_fetches held need base_cells tiers xs) wants ∙ fetches_none held need base_cells tiers in
+    fetches_top held need base_cells all_tiers tiers tier wanted plane top.tiers top.plane
+    ∙ ap (λ (xs : List Rect). count_of_fetches held need base_cells tiers xs) wants
+    ∙ fetches_none held need base_cells tiers in
     let runs : count_of_runs held need 0 all_tiers wanted ≡ 0 =
     runs_top held need all_tiers tiers tier wanted plane top.tiers top.plane
-    ∙ ap (λ (xs : List Rect). count_of_runs held need 0 tiers xs + length gone) wants ∙ ap (λ (xs : List ℕ). count_of_runs held need 0 tiers [] + length xs) none ∙ ap (λ n. n + 0) (runs_none held need 0 tiers) in
+    ∙ ap (λ (xs : List Rect). count_of_runs held need 0 tiers xs + length gone) wants
+    ∙ ap (λ (xs : List ℕ). count_of_runs held need 0 tiers [] + length xs) none
+    ∙ ap (λ n. n + 0) (runs_none held need 0 tiers) in
     omega (arith, fetches, runs)
 
 pub returns-then-is_empty-clause-count : goal.returns-then-is_empty-clause-count
@@ -180,8 +247,11 @@ returns-then-is_empty-clause-count g t c =
     let layer : Layer = c.in-Some-split_last-2.layer.now in
     let grid : Grid = c.new-grid.result in
     let side : ℕ = c.args.side in
-    let top = on_top g.S.Stage.takes g.S.Stage.shaped g.S.Stage.apply g.met.S.Stage.makes_shapes g.met.S.Stage.makes_planes P c.shape-shape.result c.shape-shape.ensures.shape c.shape-shape.ensures.plane side all c.in-Some-split_last.below.now stage c.args.layers.now c.in-Some-split_last-2.lower_layers.now layer grid
-    c.in-Some-split_last.ensures.cases.0 (omega (arith, c.in-Some-split_last.ensures.cases.1)) c.in-Some-split_last-2.ensures.cases.0 c.requires.layers c.new-grid.ensures.shape c.new-grid.ensures.side in
+    let top = on_top g.S.Stage.takes g.S.Stage.shaped g.S.Stage.apply g.met.S.Stage.makes_shapes
+    g.met.S.Stage.makes_planes P c.shape-shape.result c.shape-shape.ensures.shape c.shape-shape.ensures.plane side
+    all c.in-Some-split_last.below.now stage c.args.layers.now c.in-Some-split_last-2.lower_layers.now layer grid
+    c.in-Some-split_last.ensures.cases.0 (omega (arith, c.in-Some-split_last.ensures.cases.1))
+    c.in-Some-split_last-2.ensures.cases.0 c.requires.layers c.new-grid.ensures.shape c.new-grid.ensures.side in
     let cells : List Rect = grid_cells grid.shape grid.side in
     let plane : ℕ = length all in
     let tier : Tier _ = tier_on stage layer grid in
@@ -191,13 +261,19 @@ returns-then-is_empty-clause-count g t c =
     let wanted : List Rect = c.args.wanted.now in
     let numbers : List ℕ = meeting cells wanted in
     let gone : List ℕ = missing held plane numbers in
-    let empty : c.open_wanted.new.own.missing.items ≡ [] = none_of c.open_wanted.new.own.missing.items (omega (arith, eqb-true _ _ (sym c.is_empty.ensures ∙ c.if-is_empty.true), c.open_wanted.new.own.missing.ok)) in
+    let empty : c.open_wanted.new.own.missing.items ≡ [] =
+    none_of c.open_wanted.new.own.missing.items
+    (omega (arith, eqb-true _ _ (sym c.is_empty.ensures ∙ c.if-is_empty.true), c.open_wanted.new.own.missing.ok)) in
     let none : gone ≡ [] = sym c.in_ok-open_wanted.ensures.missing ∙ empty in
-    let wants : needs_of held need plane tier wanted ≡ [] = ap (λ (xs : List ℕ). map (need stage layer.input) (cells_at cells xs)) none in
+    let wants : needs_of held need plane tier wanted ≡ [] =
+    ap (λ (xs : List ℕ). map (need stage layer.input) (cells_at cells xs)) none in
     let base_cells : List Rect = g.B.Base.cells_of c.args.source.now.base in
     let fetches : count_of_fetches held need base_cells all_tiers wanted ≡ 0 =
-    fetches_top held need base_cells all_tiers tiers tier wanted plane top.tiers top.plane ∙ ap (λ (xs : List Rect). count_of_fetches held need base_cells tiers xs) wants ∙ fetches_none held need base_cells tiers in
-    sym (ap (raised (g.B.Base.fetches c.args.source.now.base)) fetches ∙ raised_none (g.B.Base.fetches c.args.source.now.base) (g.met.B.Base.held c.args.source.now.base))
+    fetches_top held need base_cells all_tiers tiers tier wanted plane top.tiers top.plane
+    ∙ ap (λ (xs : List Rect). count_of_fetches held need base_cells tiers xs) wants
+    ∙ fetches_none held need base_cells tiers in
+    sym (ap (raised (g.B.Base.fetches c.args.source.now.base)) fetches
+    ∙ raised_none (g.B.Base.fetches c.args.source.now.base) (g.met.B.Base.held c.args.source.now.base))
 
 pub returns-then-is_empty-clause-fetched : goal.returns-then-is_empty-clause-fetched
 returns-then-is_empty-clause-fetched g t c =
@@ -209,8 +285,11 @@ returns-then-is_empty-clause-fetched g t c =
     let layer : Layer = c.in-Some-split_last-2.layer.now in
     let grid : Grid = c.new-grid.result in
     let side : ℕ = c.args.side in
-    let top = on_top g.S.Stage.takes g.S.Stage.shaped g.S.Stage.apply g.met.S.Stage.makes_shapes g.met.S.Stage.makes_planes P c.shape-shape.result c.shape-shape.ensures.shape c.shape-shape.ensures.plane side all c.in-Some-split_last.below.now stage c.args.layers.now c.in-Some-split_last-2.lower_layers.now layer grid
-    c.in-Some-split_last.ensures.cases.0 (omega (arith, c.in-Some-split_last.ensures.cases.1)) c.in-Some-split_last-2.ensures.cases.0 c.requires.layers c.new-grid.ensures.shape c.new-grid.ensures.side in
+    let top = on_top g.S.Stage.takes g.S.Stage.shaped g.S.Stage.apply g.met.S.Stage.makes_shapes
+    g.met.S.Stage.makes_planes P c.shape-shape.result c.shape-shape.ensures.shape c.shape-shape.ensures.plane side
+    all c.in-Some-split_last.below.now stage c.args.layers.now c.in-Some-split_last-2.lower_layers.now layer grid
+    c.in-Some-split_last.ensures.cases.0 (omega (arith, c.in-Some-split_last.ensures.cases.1))
+    c.in-Some-split_last-2.ensures.cases.0 c.requires.layers c.new-grid.ensures.shape c.new-grid.ensures.side in
     let cells : List Rect = grid_cells grid.shape grid.side in
     let plane : ℕ = length all in
     let tier : Tier _ = tier_on stage layer grid in
@@ -220,13 +299,19 @@ returns-then-is_empty-clause-fetched g t c =
     let wanted : List Rect = c.args.wanted.now in
     let numbers : List ℕ = meeting cells wanted in
     let gone : List ℕ = missing held plane numbers in
-    let empty : c.open_wanted.new.own.missing.items ≡ [] = none_of c.open_wanted.new.own.missing.items (omega (arith, eqb-true _ _ (sym c.is_empty.ensures ∙ c.if-is_empty.true), c.open_wanted.new.own.missing.ok)) in
+    let empty : c.open_wanted.new.own.missing.items ≡ [] =
+    none_of c.open_wanted.new.own.missing.items
+    (omega (arith, eqb-true _ _ (sym c.is_empty.ensures ∙ c.if-is_empty.true), c.open_wanted.new.own.missing.ok)) in
     let none : gone ≡ [] = sym c.in_ok-open_wanted.ensures.missing ∙ empty in
-    let wants : needs_of held need plane tier wanted ≡ [] = ap (λ (xs : List ℕ). map (need stage layer.input) (cells_at cells xs)) none in
+    let wants : needs_of held need plane tier wanted ≡ [] =
+    ap (λ (xs : List ℕ). map (need stage layer.input) (cells_at cells xs)) none in
     let base_cells : List Rect = g.B.Base.cells_of c.args.source.now.base in
     let fetches : count_of_fetches held need base_cells all_tiers wanted ≡ 0 =
-    fetches_top held need base_cells all_tiers tiers tier wanted plane top.tiers top.plane ∙ ap (λ (xs : List Rect). count_of_fetches held need base_cells tiers xs) wants ∙ fetches_none held need base_cells tiers in
-    sym (ap (raised c.args.source.now.fetched) fetches ∙ raised_none c.args.source.now.fetched (omega (arith, c.if-prove-2.false)))
+    fetches_top held need base_cells all_tiers tiers tier wanted plane top.tiers top.plane
+    ∙ ap (λ (xs : List Rect). count_of_fetches held need base_cells tiers xs) wants
+    ∙ fetches_none held need base_cells tiers in
+    sym (ap (raised c.args.source.now.fetched) fetches
+    ∙ raised_none c.args.source.now.fetched (omega (arith, c.if-prove-2.false)))
 
 pub returns-then-is_empty-clause-ran : goal.returns-then-is_empty-clause-ran
 returns-then-is_empty-clause-ran g t c =
@@ -238,8 +323,11 @@ returns-then-is_empty-clause-ran g t c =
     let layer : Layer = c.in-Some-split_last-2.layer.now in
     let grid : Grid = c.new-grid.result in
     let side : ℕ = c.args.side in
-    let top = on_top g.S.Stage.takes g.S.Stage.shaped g.S.Stage.apply g.met.S.Stage.makes_shapes g.met.S.Stage.makes_planes P c.shape-shape.result c.shape-shape.ensures.shape c.shape-shape.ensures.plane side all c.in-Some-split_last.below.now stage c.args.layers.now c.in-Some-split_last-2.lower_layers.now layer grid
-    c.in-Some-split_last.ensures.cases.0 (omega (arith, c.in-Some-split_last.ensures.cases.1)) c.in-Some-split_last-2.ensures.cases.0 c.requires.layers c.new-grid.ensures.shape c.new-grid.ensures.side in
+    let top = on_top g.S.Stage.takes g.S.Stage.shaped g.S.Stage.apply g.met.S.Stage.makes_shapes
+    g.met.S.Stage.makes_planes P c.shape-shape.result c.shape-shape.ensures.shape c.shape-shape.ensures.plane side
+    all c.in-Some-split_last.below.now stage c.args.layers.now c.in-Some-split_last-2.lower_layers.now layer grid
+    c.in-Some-split_last.ensures.cases.0 (omega (arith, c.in-Some-split_last.ensures.cases.1))
+    c.in-Some-split_last-2.ensures.cases.0 c.requires.layers c.new-grid.ensures.shape c.new-grid.ensures.side in
     let cells : List Rect = grid_cells grid.shape grid.side in
     let plane : ℕ = length all in
     let tier : Tier _ = tier_on stage layer grid in
@@ -249,12 +337,17 @@ returns-then-is_empty-clause-ran g t c =
     let wanted : List Rect = c.args.wanted.now in
     let numbers : List ℕ = meeting cells wanted in
     let gone : List ℕ = missing held plane numbers in
-    let empty : c.open_wanted.new.own.missing.items ≡ [] = none_of c.open_wanted.new.own.missing.items (omega (arith, eqb-true _ _ (sym c.is_empty.ensures ∙ c.if-is_empty.true), c.open_wanted.new.own.missing.ok)) in
+    let empty : c.open_wanted.new.own.missing.items ≡ [] =
+    none_of c.open_wanted.new.own.missing.items
+    (omega (arith, eqb-true _ _ (sym c.is_empty.ensures ∙ c.if-is_empty.true), c.open_wanted.new.own.missing.ok)) in
     let none : gone ≡ [] = sym c.in_ok-open_wanted.ensures.missing ∙ empty in
-    let wants : needs_of held need plane tier wanted ≡ [] = ap (λ (xs : List ℕ). map (need stage layer.input) (cells_at cells xs)) none in
+    let wants : needs_of held need plane tier wanted ≡ [] =
+    ap (λ (xs : List ℕ). map (need stage layer.input) (cells_at cells xs)) none in
     let runs : count_of_runs held need 0 all_tiers wanted ≡ 0 =
     runs_top held need all_tiers tiers tier wanted plane top.tiers top.plane
-    ∙ ap (λ (xs : List Rect). count_of_runs held need 0 tiers xs + length gone) wants ∙ ap (λ (xs : List ℕ). count_of_runs held need 0 tiers [] + length xs) none ∙ ap (λ n. n + 0) (runs_none held need 0 tiers) in
+    ∙ ap (λ (xs : List Rect). count_of_runs held need 0 tiers xs + length gone) wants
+    ∙ ap (λ (xs : List ℕ). count_of_runs held need 0 tiers [] + length xs) none
+    ∙ ap (λ n. n + 0) (runs_none held need 0 tiers) in
     sym (ap (raised c.args.ran.now) runs ∙ raised_none c.args.ran.now (omega (arith, c.if-prove.false)))
 
 pub returns-then-is_empty-clause-kept : goal.returns-then-is_empty-clause-kept
@@ -267,8 +360,11 @@ returns-then-is_empty-clause-kept g t c =
     let layer : Layer = c.in-Some-split_last-2.layer.now in
     let grid : Grid = c.new-grid.result in
     let side : ℕ = c.args.side in
-    let top = on_top g.S.Stage.takes g.S.Stage.shaped g.S.Stage.apply g.met.S.Stage.makes_shapes g.met.S.Stage.makes_planes P c.shape-shape.result c.shape-shape.ensures.shape c.shape-shape.ensures.plane side all c.in-Some-split_last.below.now stage c.args.layers.now c.in-Some-split_last-2.lower_layers.now layer grid
-    c.in-Some-split_last.ensures.cases.0 (omega (arith, c.in-Some-split_last.ensures.cases.1)) c.in-Some-split_last-2.ensures.cases.0 c.requires.layers c.new-grid.ensures.shape c.new-grid.ensures.side in
+    let top = on_top g.S.Stage.takes g.S.Stage.shaped g.S.Stage.apply g.met.S.Stage.makes_shapes
+    g.met.S.Stage.makes_planes P c.shape-shape.result c.shape-shape.ensures.shape c.shape-shape.ensures.plane side
+    all c.in-Some-split_last.below.now stage c.args.layers.now c.in-Some-split_last-2.lower_layers.now layer grid
+    c.in-Some-split_last.ensures.cases.0 (omega (arith, c.in-Some-split_last.ensures.cases.1))
+    c.in-Some-split_last-2.ensures.cases.0 c.requires.layers c.new-grid.ensures.shape c.new-grid.ensures.side in
     let cells : List Rect = grid_cells grid.shape grid.side in
     let plane : ℕ = length all in
     let tier : Tier _ = tier_on stage layer grid in
@@ -278,19 +374,23 @@ returns-then-is_empty-clause-kept g t c =
     let wanted : List Rect = c.args.wanted.now in
     let numbers : List ℕ = meeting cells wanted in
     let gone : List ℕ = missing held plane numbers in
-    let empty : c.open_wanted.new.own.missing.items ≡ [] = none_of c.open_wanted.new.own.missing.items (omega (arith, eqb-true _ _ (sym c.is_empty.ensures ∙ c.if-is_empty.true), c.open_wanted.new.own.missing.ok)) in
+    let empty : c.open_wanted.new.own.missing.items ≡ [] =
+    none_of c.open_wanted.new.own.missing.items
+    (omega (arith, eqb-true _ _ (sym c.is_empty.ensures ∙ c.if-is_empty.true), c.open_wanted.new.own.missing.ok)) in
     let none : gone ≡ [] = sym c.in_ok-open_wanted.ensures.missing ∙ empty in
-    let wants : needs_of held need plane tier wanted ≡ [] = ap (λ (xs : List ℕ). map (need stage layer.input) (cells_at cells xs)) none in
+    let wants : needs_of held need plane tier wanted ≡ [] =
+    ap (λ (xs : List ℕ). map (need stage layer.input) (cells_at cells xs)) none in
     let base_cells : List Rect = g.B.Base.cells_of c.args.source.now.base in
     let planes : ℕ = P.planes in
     let K : Kept = g.C.Cache.kept c.args.cache.now in
-    let front : Kept = brought_each K plane (fresh held plane numbers) in
+    let first : Kept = brought_each K plane (fresh held plane numbers) in
     let size : ℕ → ℕ = size_of cells grid.shape.planes in
     c.in_ok-open_wanted.ensures.kept
     ∙ sym (keep_top held need K planes base_cells all_tiers tiers tier wanted plane top.tiers top.plane
-    ∙ ap (λ (xs : List ℕ). put_each (keep held need front planes base_cells tiers (needs_of held need plane tier wanted)) plane size xs) none
-    ∙ ap (λ (xs : List Rect). keep held need front planes base_cells tiers xs) wants
-    ∙ keep_none held need front planes base_cells tiers)
+    ∙ ap (λ (xs : List ℕ). put_each
+    (keep held need first planes base_cells tiers (needs_of held need plane tier wanted)) plane size xs) none
+    ∙ ap (λ (xs : List Rect). keep held need first planes base_cells tiers xs) wants
+    ∙ keep_none held need first planes base_cells tiers)
 
 pub make-requires : goal.make-requires
 make-requires g t c κs within =
@@ -304,15 +404,19 @@ make-requires g t c κs within =
     let layer : Layer = c.in-Some-split_last-2.layer.now in
     let grid : Grid = c.new-grid.result in
     let side : ℕ = c.args.side in
-    let top = on_top g.S.Stage.takes shaped g.S.Stage.apply g.met.S.Stage.makes_shapes g.met.S.Stage.makes_planes P c.shape-shape.result c.shape-shape.ensures.shape c.shape-shape.ensures.plane side all below stage c.args.layers.now c.in-Some-split_last-2.lower_layers.now layer grid
-    c.in-Some-split_last.ensures.cases.0 (omega (arith, c.in-Some-split_last.ensures.cases.1)) c.in-Some-split_last-2.ensures.cases.0 c.requires.layers c.new-grid.ensures.shape c.new-grid.ensures.side in
+    let top = on_top g.S.Stage.takes shaped g.S.Stage.apply g.met.S.Stage.makes_shapes g.met.S.Stage.makes_planes P
+    c.shape-shape.result c.shape-shape.ensures.shape c.shape-shape.ensures.plane side all below stage
+    c.args.layers.now c.in-Some-split_last-2.lower_layers.now layer grid
+    c.in-Some-split_last.ensures.cases.0 (omega (arith, c.in-Some-split_last.ensures.cases.1))
+    c.in-Some-split_last-2.ensures.cases.0 c.requires.layers c.new-grid.ensures.shape c.new-grid.ensures.side in
     let cells : List Rect = grid_cells grid.shape grid.side in
     let plane : ℕ = length all in
     let tier : Tier _ = tier_on stage layer grid in
     let tiers : List (Tier _) = tiers_of shaped side input below in
     let held : Held = g.C.Cache.held c.args.cache.now in
     let wanted : List Rect = c.args.wanted.now in
-    let kept = held_on_top g.S.Stage.takes shaped g.S.Stage.apply held input P side all below stage c.in-Some-split_last-2.lower_layers.now layer grid top c.requires.right in
+    let kept = held_on_top g.S.Stage.takes shaped g.S.Stage.apply held input P side all below stage
+    c.in-Some-split_last-2.lower_layers.now layer grid top c.requires.right in
     let opened : Held = g.C.Cache.held c.open_wanted.new.cache in
     let numbers : List ℕ = meeting cells wanted in
     let gone : List ℕ = missing held plane numbers in
@@ -322,13 +426,20 @@ make-requires g t c κs within =
     let smaller : length below < length all = omega (arith, c.in-Some-split_last.ensures.cases.1) in
     let parts : All (λ (rect : Rect). IsPart rect (last_shape shaped input below)) c.deref.result.now =
     subst (λ (xs : List Rect). All (λ (rect : Rect). IsPart rect (last_shape shaped input below)) xs) (sym lent)
-    (All-map (λ (rect : Rect). IsPart rect (last_shape shaped input below)) (need stage layer.input) (cells_at cells gone)
-    (All-weaker (λ (rect : Rect). IsPart rect grid.shape) (λ (rect : Rect). IsPart (need stage layer.input rect) (last_shape shaped input below))
-    (λ rect part. subst (λ (t : Shape). IsPart (need stage layer.input rect) t) top.low (g.met.S.Stage.needs_part stage layer.input rect top.input top.taken (subst (λ (t : Shape). IsPart rect t) top.grid part)))
+    (All-map (λ (rect : Rect). IsPart rect (last_shape shaped input below)) (need stage layer.input)
+    (cells_at cells gone)
+    (All-weaker (λ (rect : Rect). IsPart rect grid.shape) (λ (rect : Rect). IsPart (need stage layer.input rect)
+    (last_shape shaped input below))
+    (λ rect part. subst (λ (t : Shape). IsPart (need stage layer.input rect) t) top.low
+    (g.met.S.Stage.needs_part stage layer.input rect top.input top.taken
+    (subst (λ (t : Shape). IsPart rect t) top.grid part)))
     (cells_at cells gone)
     (cells_are_parts grid.shape cells gone up (missing_bounds held plane cells wanted)))) in
-    let room : length c.in-Some.rest.now ≡ length below + 1 = omega (arith, c.requires.needed, c.in-Some.ensures.cases.1, c.in-Some-split_last.ensures.cases.1) in
-    let marks : length (g.C.Cache.marks c.open_wanted.new.cache).stamps ≡ length (g.C.Cache.marks c.args.cache.now).stamps = ap (λ (m : Marks). length m.stamps) c.open_wanted.ensures.marks in (
+    let room : length c.in-Some.rest.now ≡ length below + 1 =
+    omega (arith, c.requires.needed, c.in-Some.ensures.cases.1, c.in-Some-split_last.ensures.cases.1) in
+    let marks : length (g.C.Cache.marks c.open_wanted.new.cache).stamps
+    ≡ length (g.C.Cache.marks c.args.cache.now).stamps =
+    ap (λ (m : Marks). length m.stamps) c.open_wanted.ensures.marks in (
       search rules,
       (
         search rules,
@@ -354,7 +465,12 @@ make-requires g t c κs within =
                             room,
                             (
                               parts,
-                              (right_same held opened 0 P (g.B.Base.cells_of c.args.source.now.base) c.open_wanted.ensures.held c.requires.base_right, rights_same g.S.Stage.apply held opened P tiers c.open_wanted.ensures.held kept.rights),
+                              (
+                                right_same held opened 0 P (g.B.Base.cells_of c.args.source.now.base)
+                                    c.open_wanted.ensures.held c.requires.base_right,
+                                rights_same g.S.Stage.apply held opened P tiers c.open_wanted.ensures.held
+                                    kept.rights,
+                              ),
                             ),
                           ),
                         ),
@@ -376,8 +492,12 @@ returns-in_err-make-clause-right g t c =
     let input : Shape = shape_of P in
     let below = c.in-Some-split_last.below.now in
     let side : ℕ = c.args.side in
-    let top = on_top g.S.Stage.takes shaped g.S.Stage.apply g.met.S.Stage.makes_shapes g.met.S.Stage.makes_planes P c.shape-shape.result c.shape-shape.ensures.shape c.shape-shape.ensures.plane side c.args.stages.now below c.in-Some-split_last.stage.now c.args.layers.now c.in-Some-split_last-2.lower_layers.now c.in-Some-split_last-2.layer.now c.new-grid.result
-    c.in-Some-split_last.ensures.cases.0 (omega (arith, c.in-Some-split_last.ensures.cases.1)) c.in-Some-split_last-2.ensures.cases.0 c.requires.layers c.new-grid.ensures.shape c.new-grid.ensures.side in
+    let top = on_top g.S.Stage.takes shaped g.S.Stage.apply g.met.S.Stage.makes_shapes g.met.S.Stage.makes_planes P
+    c.shape-shape.result c.shape-shape.ensures.shape c.shape-shape.ensures.plane side c.args.stages.now below
+    c.in-Some-split_last.stage.now c.args.layers.now c.in-Some-split_last-2.lower_layers.now
+    c.in-Some-split_last-2.layer.now c.new-grid.result
+    c.in-Some-split_last.ensures.cases.0 (omega (arith, c.in-Some-split_last.ensures.cases.1))
+    c.in-Some-split_last-2.ensures.cases.0 c.requires.layers c.new-grid.ensures.shape c.new-grid.ensures.side in
     let tier : Tier _ = tier_on c.in-Some-split_last.stage.now c.in-Some-split_last-2.layer.now c.new-grid.result in
     let tiers : List (Tier _) = tiers_of shaped side input below in
     let all_tiers : List (Tier _) = tiers_of shaped side input c.args.stages.now in
@@ -386,28 +506,41 @@ returns-in_err-make-clause-right g t c =
     let under : Held = g.C.Cache.held c.make.new.cache in
     let lower_rights : AreRight g.S.Stage.apply under 0 P all_tiers =
     rights_lower g.S.Stage.apply held opened under P all_tiers tiers tier top.tiers c.open_wanted.ensures.held
-    (subst (λ (n : ℕ). TakesUpTo opened under n) (sym (tiers_length shaped side input below)) c.make.ensures.above) c.requires.right c.make.ensures.right in
+    (subst (λ (n : ℕ). TakesUpTo opened under n) (sym (tiers_length shaped side input below)) c.make.ensures.above)
+    c.requires.right c.make.ensures.right in
     lower_rights
 
 pub run_missing-requires-clause-shape : goal.run_missing-requires-clause-shape
 run_missing-requires-clause-shape g t c =
     let P : Plane = g.B.Base.plane c.args.source.now.base in
-    let top = on_top g.S.Stage.takes g.S.Stage.shaped g.S.Stage.apply g.met.S.Stage.makes_shapes g.met.S.Stage.makes_planes P c.shape-shape.result c.shape-shape.ensures.shape c.shape-shape.ensures.plane c.args.side c.args.stages.now c.in-Some-split_last.below.now c.in-Some-split_last.stage.now c.args.layers.now c.in-Some-split_last-2.lower_layers.now c.in-Some-split_last-2.layer.now c.new-grid.result
-    c.in-Some-split_last.ensures.cases.0 (omega (arith, c.in-Some-split_last.ensures.cases.1)) c.in-Some-split_last-2.ensures.cases.0 c.requires.layers c.new-grid.ensures.shape c.new-grid.ensures.side in
+    let top = on_top g.S.Stage.takes g.S.Stage.shaped g.S.Stage.apply g.met.S.Stage.makes_shapes
+    g.met.S.Stage.makes_planes P c.shape-shape.result c.shape-shape.ensures.shape c.shape-shape.ensures.plane
+    c.args.side c.args.stages.now c.in-Some-split_last.below.now c.in-Some-split_last.stage.now c.args.layers.now
+    c.in-Some-split_last-2.lower_layers.now c.in-Some-split_last-2.layer.now c.new-grid.result
+    c.in-Some-split_last.ensures.cases.0 (omega (arith, c.in-Some-split_last.ensures.cases.1))
+    c.in-Some-split_last-2.ensures.cases.0 c.requires.layers c.new-grid.ensures.shape c.new-grid.ensures.side in
     top.input
 
 pub run_missing-requires-clause-takes : goal.run_missing-requires-clause-takes
 run_missing-requires-clause-takes g t c =
     let P : Plane = g.B.Base.plane c.args.source.now.base in
-    let top = on_top g.S.Stage.takes g.S.Stage.shaped g.S.Stage.apply g.met.S.Stage.makes_shapes g.met.S.Stage.makes_planes P c.shape-shape.result c.shape-shape.ensures.shape c.shape-shape.ensures.plane c.args.side c.args.stages.now c.in-Some-split_last.below.now c.in-Some-split_last.stage.now c.args.layers.now c.in-Some-split_last-2.lower_layers.now c.in-Some-split_last-2.layer.now c.new-grid.result
-    c.in-Some-split_last.ensures.cases.0 (omega (arith, c.in-Some-split_last.ensures.cases.1)) c.in-Some-split_last-2.ensures.cases.0 c.requires.layers c.new-grid.ensures.shape c.new-grid.ensures.side in
+    let top = on_top g.S.Stage.takes g.S.Stage.shaped g.S.Stage.apply g.met.S.Stage.makes_shapes
+    g.met.S.Stage.makes_planes P c.shape-shape.result c.shape-shape.ensures.shape c.shape-shape.ensures.plane
+    c.args.side c.args.stages.now c.in-Some-split_last.below.now c.in-Some-split_last.stage.now c.args.layers.now
+    c.in-Some-split_last-2.lower_layers.now c.in-Some-split_last-2.layer.now c.new-grid.result
+    c.in-Some-split_last.ensures.cases.0 (omega (arith, c.in-Some-split_last.ensures.cases.1))
+    c.in-Some-split_last-2.ensures.cases.0 c.requires.layers c.new-grid.ensures.shape c.new-grid.ensures.side in
     top.taken
 
 pub run_missing-requires-clause-grid : goal.run_missing-requires-clause-grid
 run_missing-requires-clause-grid g t c =
     let P : Plane = g.B.Base.plane c.args.source.now.base in
-    let top = on_top g.S.Stage.takes g.S.Stage.shaped g.S.Stage.apply g.met.S.Stage.makes_shapes g.met.S.Stage.makes_planes P c.shape-shape.result c.shape-shape.ensures.shape c.shape-shape.ensures.plane c.args.side c.args.stages.now c.in-Some-split_last.below.now c.in-Some-split_last.stage.now c.args.layers.now c.in-Some-split_last-2.lower_layers.now c.in-Some-split_last-2.layer.now c.new-grid.result
-    c.in-Some-split_last.ensures.cases.0 (omega (arith, c.in-Some-split_last.ensures.cases.1)) c.in-Some-split_last-2.ensures.cases.0 c.requires.layers c.new-grid.ensures.shape c.new-grid.ensures.side in
+    let top = on_top g.S.Stage.takes g.S.Stage.shaped g.S.Stage.apply g.met.S.Stage.makes_shapes
+    g.met.S.Stage.makes_planes P c.shape-shape.result c.shape-shape.ensures.shape c.shape-shape.ensures.plane
+    c.args.side c.args.stages.now c.in-Some-split_last.below.now c.in-Some-split_last.stage.now c.args.layers.now
+    c.in-Some-split_last-2.lower_layers.now c.in-Some-split_last-2.layer.now c.new-grid.result
+    c.in-Some-split_last.ensures.cases.0 (omega (arith, c.in-Some-split_last.ensures.cases.1))
+    c.in-Some-split_last-2.ensures.cases.0 c.requires.layers c.new-grid.ensures.shape c.new-grid.ensures.side in
     top.grid
 
 pub run_missing-requires-clause-numbers : goal.run_missing-requires-clause-numbers
@@ -418,7 +551,8 @@ run_missing-requires-clause-numbers g t c =
     let numbers : List ℕ = meeting cells c.args.wanted.now in
     let gone : List ℕ = missing held plane numbers in
     let rest : c.deref-2.result.now ≡ gone = c.deref-2.ensures.value ∙ c.in_ok-open_wanted.ensures.missing in
-    subst (λ (xs : List ℕ). All (λ k. k < length cells) xs) (sym rest) (missing_bounds held plane cells c.args.wanted.now)
+    subst (λ (xs : List ℕ). All (λ k. k < length cells) xs) (sym rest)
+    (missing_bounds held plane cells c.args.wanted.now)
 
 pub run_missing-requires-clause-inside : goal.run_missing-requires-clause-inside
 run_missing-requires-clause-inside g t c =
@@ -428,7 +562,9 @@ run_missing-requires-clause-inside g t c =
     let numbers : List ℕ = meeting cells c.args.wanted.now in
     let gone : List ℕ = missing held plane numbers in
     let rest : c.deref-2.result.now ≡ gone = c.deref-2.ensures.value ∙ c.in_ok-open_wanted.ensures.missing in
-    subst (λ (xs : List ℕ). All (λ k. LiesIn (cell_at cells k) c.open_wanted.new.patch.rect) xs) (sym rest) (missing_told (λ x. LiesIn x c.open_wanted.new.patch.rect) cells held plane numbers c.in_ok-open_wanted.ensures.lie)
+    subst (λ (xs : List ℕ). All (λ k. LiesIn (cell_at cells k) c.open_wanted.new.patch.rect) xs) (sym rest)
+    (missing_told (λ x. LiesIn x c.open_wanted.new.patch.rect) cells held plane numbers
+    c.in_ok-open_wanted.ensures.lie)
 
 pub run_missing-requires-clause-needs : goal.run_missing-requires-clause-needs
 run_missing-requires-clause-needs g t c =
@@ -447,16 +583,24 @@ run_missing-requires-clause-needs g t c =
     let f : Rect → Rect = g.S.Stage.needed c.in-Some-split_last.stage.now c.in-Some-split_last-2.layer.now.input in
     let lent_part : Lent = c.make.new.patch in
     let shown : All (λ k. Shows Q lent_part (f (cell_at cells k))) c.deref-2.result.now =
-    subst (λ (xs : List ℕ). All (λ k. Shows Q lent_part (f (cell_at cells k))) xs) (sym rest) (unmapped (Shows Q lent_part) f cells gone (subst (λ (xs : List Rect). All (Shows Q lent_part) xs) lent c.in_ok-make.ensures.shows)) in
+    subst (λ (xs : List ℕ). All (λ k. Shows Q lent_part (f (cell_at cells k))) xs) (sym rest)
+    (unmapped (Shows Q lent_part) f cells gone (subst (λ (xs : List Rect). All (Shows Q lent_part) xs) lent
+    c.in_ok-make.ensures.shows)) in
     subst (λ (V : Lent). All (λ k. LiesIn (f (cell_at cells k)) V.rect) c.deref-2.result.now) (sym c.view.ensures)
-    (All-weaker (λ k. Shows Q lent_part (f (cell_at cells k))) (λ k. LiesIn (f (cell_at cells k)) lent_part.rect) (λ k s. s.lies) c.deref-2.result.now shown)
+    (All-weaker (λ k. Shows Q lent_part (f (cell_at cells k))) (λ k. LiesIn (f (cell_at cells k)) lent_part.rect)
+    (λ k s. s.lies) c.deref-2.result.now shown)
 
 pub run_missing-requires-clause-lower : goal.run_missing-requires-clause-lower
 run_missing-requires-clause-lower g t c =
     let P : Plane = g.B.Base.plane c.args.source.now.base in
-    let top = on_top g.S.Stage.takes g.S.Stage.shaped g.S.Stage.apply g.met.S.Stage.makes_shapes g.met.S.Stage.makes_planes P c.shape-shape.result c.shape-shape.ensures.shape c.shape-shape.ensures.plane c.args.side c.args.stages.now c.in-Some-split_last.below.now c.in-Some-split_last.stage.now c.args.layers.now c.in-Some-split_last-2.lower_layers.now c.in-Some-split_last-2.layer.now c.new-grid.result
-    c.in-Some-split_last.ensures.cases.0 (omega (arith, c.in-Some-split_last.ensures.cases.1)) c.in-Some-split_last-2.ensures.cases.0 c.requires.layers c.new-grid.ensures.shape c.new-grid.ensures.side in
-    ap (λ (V : Lent). V.planes) c.view.ensures ∙ c.in_ok-make.ensures.planes ∙ ap (λ (t : Shape). t.planes) (sym top.low)
+    let top = on_top g.S.Stage.takes g.S.Stage.shaped g.S.Stage.apply g.met.S.Stage.makes_shapes
+    g.met.S.Stage.makes_planes P c.shape-shape.result c.shape-shape.ensures.shape c.shape-shape.ensures.plane
+    c.args.side c.args.stages.now c.in-Some-split_last.below.now c.in-Some-split_last.stage.now c.args.layers.now
+    c.in-Some-split_last-2.lower_layers.now c.in-Some-split_last-2.layer.now c.new-grid.result
+    c.in-Some-split_last.ensures.cases.0 (omega (arith, c.in-Some-split_last.ensures.cases.1))
+    c.in-Some-split_last-2.ensures.cases.0 c.requires.layers c.new-grid.ensures.shape c.new-grid.ensures.side in
+    ap (λ (V : Lent). V.planes) c.view.ensures ∙ c.in_ok-make.ensures.planes
+    ∙ ap (λ (t : Shape). t.planes) (sym top.low)
 
 pub run_missing-requires-clause-rising : goal.run_missing-requires-clause-rising
 run_missing-requires-clause-rising g t c =
@@ -479,7 +623,8 @@ run_missing-requires-clause-absent g t c =
     let under : Held = g.C.Cache.held c.make.new.cache in
     let long : length c.in-Some-split_last.below.now < plane = omega (arith, c.in-Some-split_last.ensures.cases.1) in
     subst (λ (xs : List ℕ). All (λ k. under.holds plane k ≡ false) xs) (sym rest)
-    (absent_later held under plane numbers (λ k now. sym (c.open_wanted.ensures.held.holds plane k) ∙ (c.make.ensures.above.above plane k long now).0))
+    (absent_later held under plane numbers (λ k now. sym (c.open_wanted.ensures.held.holds plane k)
+    ∙ (c.make.ensures.above.above plane k long now).0))
 
 pub returns-in_err-run_missing-clause-right : goal.returns-in_err-run_missing-clause-right
 returns-in_err-run_missing-clause-right g t c =
@@ -493,8 +638,11 @@ returns-in_err-run_missing-clause-right g t c =
     let layer : Layer = c.in-Some-split_last-2.layer.now in
     let grid : Grid = c.new-grid.result in
     let side : ℕ = c.args.side in
-    let top = on_top g.S.Stage.takes shaped apply g.met.S.Stage.makes_shapes g.met.S.Stage.makes_planes P c.shape-shape.result c.shape-shape.ensures.shape c.shape-shape.ensures.plane side all below stage c.args.layers.now c.in-Some-split_last-2.lower_layers.now layer grid
-    c.in-Some-split_last.ensures.cases.0 (omega (arith, c.in-Some-split_last.ensures.cases.1)) c.in-Some-split_last-2.ensures.cases.0 c.requires.layers c.new-grid.ensures.shape c.new-grid.ensures.side in
+    let top = on_top g.S.Stage.takes shaped apply g.met.S.Stage.makes_shapes g.met.S.Stage.makes_planes P
+    c.shape-shape.result c.shape-shape.ensures.shape c.shape-shape.ensures.plane side all below stage
+    c.args.layers.now c.in-Some-split_last-2.lower_layers.now layer grid
+    c.in-Some-split_last.ensures.cases.0 (omega (arith, c.in-Some-split_last.ensures.cases.1))
+    c.in-Some-split_last-2.ensures.cases.0 c.requires.layers c.new-grid.ensures.shape c.new-grid.ensures.side in
     let cells : List Rect = grid_cells grid.shape grid.side in
     let plane : ℕ = length all in
     let tier : Tier _ = tier_on stage layer grid in
@@ -512,17 +660,24 @@ returns-in_err-run_missing-clause-right g t c =
     let f : Rect → Rect = g.S.Stage.needed stage layer.input in
     let lent_part : Lent = c.make.new.patch in
     let shown : All (λ k. Shows Q lent_part (f (cell_at cells k))) c.deref-2.result.now =
-    subst (λ (xs : List ℕ). All (λ k. Shows Q lent_part (f (cell_at cells k))) xs) (sym rest) (unmapped (Shows Q lent_part) f cells gone (subst (λ (xs : List Rect). All (Shows Q lent_part) xs) lent c.in_ok-make.ensures.shows)) in
+    subst (λ (xs : List ℕ). All (λ k. Shows Q lent_part (f (cell_at cells k))) xs) (sym rest)
+    (unmapped (Shows Q lent_part) f cells gone (subst (λ (xs : List Rect). All (Shows Q lent_part) xs) lent
+    c.in_ok-make.ensures.shows)) in
     let agrees : All (λ k. AgreesWith Q c.view.result (f (cell_at cells k))) c.deref-2.result.now =
     subst (λ (V : Lent). All (λ k. AgreesWith Q V (f (cell_at cells k))) c.deref-2.result.now) (sym c.view.ensures)
-    (All-weaker (λ k. Shows Q lent_part (f (cell_at cells k))) (λ k. AgreesWith Q lent_part (f (cell_at cells k))) (λ k s. s.agrees) c.deref-2.result.now shown) in
+    (All-weaker (λ k. Shows Q lent_part (f (cell_at cells k))) (λ k. AgreesWith Q lent_part (f (cell_at cells k)))
+    (λ k s. s.agrees) c.deref-2.result.now shown) in
     let lower_rights : AreRight apply under 0 P all_tiers =
     rights_lower apply held opened under P all_tiers tiers tier top.tiers c.open_wanted.ensures.held
-    (subst (λ (n : ℕ). TakesUpTo opened under n) (sym (tiers_length shaped side input below)) c.make.ensures.above) c.requires.right c.make.ensures.right in
+    (subst (λ (n : ℕ). TakesUpTo opened under n) (sym (tiers_length shaped side input below)) c.make.ensures.above)
+    c.requires.right c.make.ensures.right in
     let new : Held = g.C.Cache.held c.run_missing.new.cache in
-    let step : IsRight under plane (apply stage (developed apply tiers P)) cells → IsRight new plane (apply stage (developed apply tiers P)) cells =
-    subst (λ (X : Plane). IsRight under plane (apply stage X) cells → IsRight new plane (apply stage X) cells) (sym (developed_is shaped apply side input below P)) (c.run_missing.ensures.right Q top.lower agrees) in
-    rights_run apply under new P all_tiers tiers tier plane top.tiers top.plane c.run_missing.ensures.others step lower_rights
+    let step : IsRight under plane (apply stage (developed apply tiers P)) cells
+    → IsRight new plane (apply stage (developed apply tiers P)) cells =
+    subst (λ (X : Plane). IsRight under plane (apply stage X) cells → IsRight new plane (apply stage X) cells)
+    (sym (developed_is shaped apply side input below P)) (c.run_missing.ensures.right Q top.lower agrees) in
+    rights_run apply under new P all_tiers tiers tier plane top.tiers top.plane c.run_missing.ensures.others step
+    lower_rights
 
 pub returns-clause-right : goal.returns-clause-right
 returns-clause-right g t c =
@@ -536,8 +691,11 @@ returns-clause-right g t c =
     let layer : Layer = c.in-Some-split_last-2.layer.now in
     let grid : Grid = c.new-grid.result in
     let side : ℕ = c.args.side in
-    let top = on_top g.S.Stage.takes shaped apply g.met.S.Stage.makes_shapes g.met.S.Stage.makes_planes P c.shape-shape.result c.shape-shape.ensures.shape c.shape-shape.ensures.plane side all below stage c.args.layers.now c.in-Some-split_last-2.lower_layers.now layer grid
-    c.in-Some-split_last.ensures.cases.0 (omega (arith, c.in-Some-split_last.ensures.cases.1)) c.in-Some-split_last-2.ensures.cases.0 c.requires.layers c.new-grid.ensures.shape c.new-grid.ensures.side in
+    let top = on_top g.S.Stage.takes shaped apply g.met.S.Stage.makes_shapes g.met.S.Stage.makes_planes P
+    c.shape-shape.result c.shape-shape.ensures.shape c.shape-shape.ensures.plane side all below stage
+    c.args.layers.now c.in-Some-split_last-2.lower_layers.now layer grid
+    c.in-Some-split_last.ensures.cases.0 (omega (arith, c.in-Some-split_last.ensures.cases.1))
+    c.in-Some-split_last-2.ensures.cases.0 c.requires.layers c.new-grid.ensures.shape c.new-grid.ensures.side in
     let cells : List Rect = grid_cells grid.shape grid.side in
     let plane : ℕ = length all in
     let tier : Tier _ = tier_on stage layer grid in
@@ -555,17 +713,24 @@ returns-clause-right g t c =
     let f : Rect → Rect = g.S.Stage.needed stage layer.input in
     let lent_part : Lent = c.make.new.patch in
     let shown : All (λ k. Shows Q lent_part (f (cell_at cells k))) c.deref-2.result.now =
-    subst (λ (xs : List ℕ). All (λ k. Shows Q lent_part (f (cell_at cells k))) xs) (sym rest) (unmapped (Shows Q lent_part) f cells gone (subst (λ (xs : List Rect). All (Shows Q lent_part) xs) lent c.in_ok-make.ensures.shows)) in
+    subst (λ (xs : List ℕ). All (λ k. Shows Q lent_part (f (cell_at cells k))) xs) (sym rest)
+    (unmapped (Shows Q lent_part) f cells gone (subst (λ (xs : List Rect). All (Shows Q lent_part) xs) lent
+    c.in_ok-make.ensures.shows)) in
     let agrees : All (λ k. AgreesWith Q c.view.result (f (cell_at cells k))) c.deref-2.result.now =
     subst (λ (V : Lent). All (λ k. AgreesWith Q V (f (cell_at cells k))) c.deref-2.result.now) (sym c.view.ensures)
-    (All-weaker (λ k. Shows Q lent_part (f (cell_at cells k))) (λ k. AgreesWith Q lent_part (f (cell_at cells k))) (λ k s. s.agrees) c.deref-2.result.now shown) in
+    (All-weaker (λ k. Shows Q lent_part (f (cell_at cells k))) (λ k. AgreesWith Q lent_part (f (cell_at cells k)))
+    (λ k s. s.agrees) c.deref-2.result.now shown) in
     let lower_rights : AreRight apply under 0 P all_tiers =
     rights_lower apply held opened under P all_tiers tiers tier top.tiers c.open_wanted.ensures.held
-    (subst (λ (n : ℕ). TakesUpTo opened under n) (sym (tiers_length shaped side input below)) c.make.ensures.above) c.requires.right c.make.ensures.right in
+    (subst (λ (n : ℕ). TakesUpTo opened under n) (sym (tiers_length shaped side input below)) c.make.ensures.above)
+    c.requires.right c.make.ensures.right in
     let new : Held = g.C.Cache.held c.run_missing.new.cache in
-    let step : IsRight under plane (apply stage (developed apply tiers P)) cells → IsRight new plane (apply stage (developed apply tiers P)) cells =
-    subst (λ (X : Plane). IsRight under plane (apply stage X) cells → IsRight new plane (apply stage X) cells) (sym (developed_is shaped apply side input below P)) (c.run_missing.ensures.right Q top.lower agrees) in
-    rights_run apply under new P all_tiers tiers tier plane top.tiers top.plane c.run_missing.ensures.others step lower_rights
+    let step : IsRight under plane (apply stage (developed apply tiers P)) cells
+    → IsRight new plane (apply stage (developed apply tiers P)) cells =
+    subst (λ (X : Plane). IsRight under plane (apply stage X) cells → IsRight new plane (apply stage X) cells)
+    (sym (developed_is shaped apply side input below P)) (c.run_missing.ensures.right Q top.lower agrees) in
+    rights_run apply under new P all_tiers tiers tier plane top.tiers top.plane c.run_missing.ensures.others step
+    lower_rights
 
 pub returns-in_err-run_missing-clause-above : goal.returns-in_err-run_missing-clause-above
 returns-in_err-run_missing-clause-above g t c =
@@ -574,7 +739,9 @@ returns-in_err-run_missing-clause-above g t c =
     let opened : Held = g.C.Cache.held c.open_wanted.new.cache in
     let under : Held = g.C.Cache.held c.make.new.cache in
     let long : length c.in-Some-split_last.below.now ≤ plane = omega (arith, c.in-Some-split_last.ensures.cases.1) in
-    takes_run held under (g.C.Cache.held c.run_missing.new.cache) plane (takes_lower held opened under (length c.in-Some-split_last.below.now) plane c.open_wanted.ensures.held c.make.ensures.above long) c.run_missing.ensures.others
+    takes_run held under (g.C.Cache.held c.run_missing.new.cache) plane
+    (takes_lower held opened under (length c.in-Some-split_last.below.now) plane c.open_wanted.ensures.held
+    c.make.ensures.above long) c.run_missing.ensures.others
 
 pub returns-clause-above : goal.returns-clause-above
 returns-clause-above g t c =
@@ -583,21 +750,34 @@ returns-clause-above g t c =
     let opened : Held = g.C.Cache.held c.open_wanted.new.cache in
     let under : Held = g.C.Cache.held c.make.new.cache in
     let long : length c.in-Some-split_last.below.now ≤ plane = omega (arith, c.in-Some-split_last.ensures.cases.1) in
-    takes_run held under (g.C.Cache.held c.run_missing.new.cache) plane (takes_lower held opened under (length c.in-Some-split_last.below.now) plane c.open_wanted.ensures.held c.make.ensures.above long) c.run_missing.ensures.others
+    takes_run held under (g.C.Cache.held c.run_missing.new.cache) plane
+    (takes_lower held opened under (length c.in-Some-split_last.below.now) plane c.open_wanted.ensures.held
+    c.make.ensures.above long) c.run_missing.ensures.others
 
 pub returns-clause-whole : goal.returns-clause-whole
 returns-clause-whole g t c =
     let P : Plane = g.B.Base.plane c.args.source.now.base in
     let input : Shape = shape_of P in
-    let top = on_top g.S.Stage.takes g.S.Stage.shaped g.S.Stage.apply g.met.S.Stage.makes_shapes g.met.S.Stage.makes_planes P c.shape-shape.result c.shape-shape.ensures.shape c.shape-shape.ensures.plane c.args.side c.args.stages.now c.in-Some-split_last.below.now c.in-Some-split_last.stage.now c.args.layers.now c.in-Some-split_last-2.lower_layers.now c.in-Some-split_last-2.layer.now c.new-grid.result
-    c.in-Some-split_last.ensures.cases.0 (omega (arith, c.in-Some-split_last.ensures.cases.1)) c.in-Some-split_last-2.ensures.cases.0 c.requires.layers c.new-grid.ensures.shape c.new-grid.ensures.side in
-    subst (λ (X : Plane). IsPlane X (last_shape g.S.Stage.shaped input c.args.stages.now)) (sym top.whole) (subst (λ (t : Shape). IsPlane (g.S.Stage.apply c.in-Some-split_last.stage.now (whole_of g.S.Stage.apply c.in-Some-split_last.below.now P)) t) (sym top.last) top.own)
+    let top = on_top g.S.Stage.takes g.S.Stage.shaped g.S.Stage.apply g.met.S.Stage.makes_shapes
+    g.met.S.Stage.makes_planes P c.shape-shape.result c.shape-shape.ensures.shape c.shape-shape.ensures.plane
+    c.args.side c.args.stages.now c.in-Some-split_last.below.now c.in-Some-split_last.stage.now c.args.layers.now
+    c.in-Some-split_last-2.lower_layers.now c.in-Some-split_last-2.layer.now c.new-grid.result
+    c.in-Some-split_last.ensures.cases.0 (omega (arith, c.in-Some-split_last.ensures.cases.1))
+    c.in-Some-split_last-2.ensures.cases.0 c.requires.layers c.new-grid.ensures.shape c.new-grid.ensures.side in
+    subst (λ (X : Plane). IsPlane X (last_shape g.S.Stage.shaped input c.args.stages.now)) (sym top.whole)
+    (subst (λ (t : Shape). IsPlane
+    (g.S.Stage.apply c.in-Some-split_last.stage.now (whole_of g.S.Stage.apply c.in-Some-split_last.below.now P)) t)
+    (sym top.last) top.own)
 
 pub returns-clause-planes : goal.returns-clause-planes
 returns-clause-planes g t c =
     let P : Plane = g.B.Base.plane c.args.source.now.base in
-    let top = on_top g.S.Stage.takes g.S.Stage.shaped g.S.Stage.apply g.met.S.Stage.makes_shapes g.met.S.Stage.makes_planes P c.shape-shape.result c.shape-shape.ensures.shape c.shape-shape.ensures.plane c.args.side c.args.stages.now c.in-Some-split_last.below.now c.in-Some-split_last.stage.now c.args.layers.now c.in-Some-split_last-2.lower_layers.now c.in-Some-split_last-2.layer.now c.new-grid.result
-    c.in-Some-split_last.ensures.cases.0 (omega (arith, c.in-Some-split_last.ensures.cases.1)) c.in-Some-split_last-2.ensures.cases.0 c.requires.layers c.new-grid.ensures.shape c.new-grid.ensures.side in
+    let top = on_top g.S.Stage.takes g.S.Stage.shaped g.S.Stage.apply g.met.S.Stage.makes_shapes
+    g.met.S.Stage.makes_planes P c.shape-shape.result c.shape-shape.ensures.shape c.shape-shape.ensures.plane
+    c.args.side c.args.stages.now c.in-Some-split_last.below.now c.in-Some-split_last.stage.now c.args.layers.now
+    c.in-Some-split_last-2.lower_layers.now c.in-Some-split_last-2.layer.now c.new-grid.result
+    c.in-Some-split_last.ensures.cases.0 (omega (arith, c.in-Some-split_last.ensures.cases.1))
+    c.in-Some-split_last-2.ensures.cases.0 c.requires.layers c.new-grid.ensures.shape c.new-grid.ensures.side in
     c.run_missing.ensures.planes ∙ c.in_ok-open_wanted.ensures.planes ∙ ap (λ (t : Shape). t.planes) (sym top.last)
 
 pub returns-clause-shows : goal.returns-clause-shows
@@ -610,14 +790,18 @@ returns-clause-shows g t c =
     let below = c.in-Some-split_last.below.now in
     let layer : Layer = c.in-Some-split_last-2.layer.now in
     let grid : Grid = c.new-grid.result in
-    let top = on_top g.S.Stage.takes g.S.Stage.shaped apply g.met.S.Stage.makes_shapes g.met.S.Stage.makes_planes P c.shape-shape.result c.shape-shape.ensures.shape c.shape-shape.ensures.plane c.args.side all below stage c.args.layers.now c.in-Some-split_last-2.lower_layers.now layer grid
-    c.in-Some-split_last.ensures.cases.0 (omega (arith, c.in-Some-split_last.ensures.cases.1)) c.in-Some-split_last-2.ensures.cases.0 c.requires.layers c.new-grid.ensures.shape c.new-grid.ensures.side in
+    let top = on_top g.S.Stage.takes g.S.Stage.shaped apply g.met.S.Stage.makes_shapes g.met.S.Stage.makes_planes P
+    c.shape-shape.result c.shape-shape.ensures.shape c.shape-shape.ensures.plane c.args.side all below stage
+    c.args.layers.now c.in-Some-split_last-2.lower_layers.now layer grid
+    c.in-Some-split_last.ensures.cases.0 (omega (arith, c.in-Some-split_last.ensures.cases.1))
+    c.in-Some-split_last-2.ensures.cases.0 c.requires.layers c.new-grid.ensures.shape c.new-grid.ensures.side in
     let cells : List Rect = grid_cells grid.shape grid.side in
     let plane : ℕ = length all in
     let tier : Tier _ = tier_on stage layer grid in
     let held : Held = g.C.Cache.held c.args.cache.now in
     let wanted : List Rect = c.args.wanted.now in
-    let kept = held_on_top g.S.Stage.takes g.S.Stage.shaped apply held input P c.args.side all below stage c.in-Some-split_last-2.lower_layers.now layer grid top c.requires.right in
+    let kept = held_on_top g.S.Stage.takes g.S.Stage.shaped apply held input P c.args.side all below stage
+    c.in-Some-split_last-2.lower_layers.now layer grid top c.requires.right in
     let numbers : List ℕ = meeting cells wanted in
     let gone : List ℕ = missing held plane numbers in
     let needs : List Rect = needs_of held g.S.Stage.needed plane tier wanted in
@@ -628,20 +812,28 @@ returns-clause-shows g t c =
     let f : Rect → Rect = g.S.Stage.needed stage layer.input in
     let lent_part : Lent = c.make.new.patch in
     let shown : All (λ k. Shows Q lent_part (f (cell_at cells k))) c.deref-2.result.now =
-    subst (λ (xs : List ℕ). All (λ k. Shows Q lent_part (f (cell_at cells k))) xs) (sym rest) (unmapped (Shows Q lent_part) f cells gone (subst (λ (xs : List Rect). All (Shows Q lent_part) xs) lent c.in_ok-make.ensures.shows)) in
+    subst (λ (xs : List ℕ). All (λ k. Shows Q lent_part (f (cell_at cells k))) xs) (sym rest)
+    (unmapped (Shows Q lent_part) f cells gone (subst (λ (xs : List Rect). All (Shows Q lent_part) xs) lent
+    c.in_ok-make.ensures.shows)) in
     let agrees : All (λ k. AgreesWith Q c.view.result (f (cell_at cells k))) c.deref-2.result.now =
     subst (λ (V : Lent). All (λ k. AgreesWith Q V (f (cell_at cells k))) c.deref-2.result.now) (sym c.view.ensures)
-    (All-weaker (λ k. Shows Q lent_part (f (cell_at cells k))) (λ k. AgreesWith Q lent_part (f (cell_at cells k))) (λ k s. s.agrees) c.deref-2.result.now shown) in
-    let parts : All (λ (rect : Rect). IsPart rect grid.shape) wanted = subst (λ (t : Shape). All (λ (rect : Rect). IsPart rect t) wanted) top.last c.requires.wanted in
+    (All-weaker (λ k. Shows Q lent_part (f (cell_at cells k))) (λ k. AgreesWith Q lent_part (f (cell_at cells k)))
+    (λ k s. s.agrees) c.deref-2.result.now shown) in
+    let parts : All (λ (rect : Rect). IsPart rect grid.shape) wanted =
+    subst (λ (t : Shape). All (λ (rect : Rect). IsPart rect t) wanted) top.last c.requires.wanted in
     let up = grid_makes_up grid.shape grid.side (omega (arith, grid.least)) in
     let patch : Lent = c.run_missing.new.patch in
-    let had : HasCells R c.open_wanted.new.patch wanted cells (fresh held plane numbers) = c.in_ok-open_wanted.ensures.cells R top.own.shape.planes kept.right in
+    let had : HasCells R c.open_wanted.new.patch wanted cells (fresh held plane numbers) =
+    c.in_ok-open_wanted.ensures.cells R top.own.shape.planes kept.right in
     let filled : HasCells R patch wanted cells (fresh held plane numbers ++ gone) =
-    subst (λ (xs : List ℕ). HasCells R patch wanted cells (fresh held plane numbers ++ xs)) rest (c.in_ok-run_missing.ensures.copied Q wanted (fresh held plane numbers) top.lower agrees had) in
+    subst (λ (xs : List ℕ). HasCells R patch wanted cells (fresh held plane numbers ++ xs)) rest
+    (c.in_ok-run_missing.ensures.copied Q wanted (fresh held plane numbers) top.lower agrees had) in
     let lie : All (λ (rect : Rect). LiesIn rect patch.rect) (cells_at cells numbers) =
-    subst (λ (x : Rect). All (λ (rect : Rect). LiesIn rect x) (cells_at cells numbers)) (sym c.run_missing.ensures.rect) c.in_ok-open_wanted.ensures.lie in
+    subst (λ (x : Rect). All (λ (rect : Rect). LiesIn rect x) (cells_at cells numbers)) (sym c.run_missing.ensures.rect)
+    c.in_ok-open_wanted.ensures.lie in
     subst (λ (X : Plane). All (Shows X patch) wanted) (sym top.whole)
-    (shows_wanted R patch grid.shape cells wanted up parts lie (filled_from R patch wanted cells held plane numbers filled))
+    (shows_wanted R patch grid.shape cells wanted up parts lie
+    (filled_from R patch wanted cells held plane numbers filled))
 
 pub returns-clause-work : goal.returns-clause-work
 returns-clause-work g t c =
@@ -651,8 +843,12 @@ returns-clause-work g t c =
     let all = c.args.stages.now in
     let grid : Grid = c.new-grid.result in
     let side : ℕ = c.args.side in
-    let top = on_top g.S.Stage.takes g.S.Stage.shaped g.S.Stage.apply g.met.S.Stage.makes_shapes g.met.S.Stage.makes_planes P c.shape-shape.result c.shape-shape.ensures.shape c.shape-shape.ensures.plane side all c.in-Some-split_last.below.now c.in-Some-split_last.stage.now c.args.layers.now c.in-Some-split_last-2.lower_layers.now c.in-Some-split_last-2.layer.now grid
-    c.in-Some-split_last.ensures.cases.0 (omega (arith, c.in-Some-split_last.ensures.cases.1)) c.in-Some-split_last-2.ensures.cases.0 c.requires.layers c.new-grid.ensures.shape c.new-grid.ensures.side in
+    let top = on_top g.S.Stage.takes g.S.Stage.shaped g.S.Stage.apply g.met.S.Stage.makes_shapes
+    g.met.S.Stage.makes_planes P c.shape-shape.result c.shape-shape.ensures.shape c.shape-shape.ensures.plane side
+    all c.in-Some-split_last.below.now c.in-Some-split_last.stage.now c.args.layers.now
+    c.in-Some-split_last-2.lower_layers.now c.in-Some-split_last-2.layer.now grid
+    c.in-Some-split_last.ensures.cases.0 (omega (arith, c.in-Some-split_last.ensures.cases.1))
+    c.in-Some-split_last-2.ensures.cases.0 c.requires.layers c.new-grid.ensures.shape c.new-grid.ensures.side in
     let cells : List Rect = grid_cells grid.shape grid.side in
     let plane : ℕ = length all in
     let tier : Tier _ = tier_on c.in-Some-split_last.stage.now c.in-Some-split_last-2.layer.now grid in
@@ -667,11 +863,16 @@ returns-clause-work g t c =
     let lent : c.deref.result.now ≡ needs = c.deref.ensures.value ∙ c.in_ok-open_wanted.ensures.needs in
     let rest : c.deref-2.result.now ≡ gone = c.deref-2.ensures.value ∙ c.in_ok-open_wanted.ensures.missing in
     let base_cells : List Rect = g.B.Base.cells_of c.args.source.now.base in
-    let fetches : count_of_fetches held need base_cells all_tiers wanted ≡ count_of_fetches opened need base_cells tiers c.deref.result.now =
-    fetches_top held need base_cells all_tiers tiers tier wanted plane top.tiers top.plane ∙ ap (λ (xs : List Rect). count_of_fetches held need base_cells tiers xs) (sym lent) ∙ sym (fetches_same held opened need base_cells tiers c.deref.result.now c.open_wanted.ensures.held.holds) in
-    let runs : count_of_runs held need 0 all_tiers wanted ≡ count_of_runs opened need 0 tiers c.deref.result.now + length gone =
+    let fetches : count_of_fetches held need base_cells all_tiers wanted ≡ count_of_fetches opened need base_cells tiers
+    c.deref.result.now =
+    fetches_top held need base_cells all_tiers tiers tier wanted plane top.tiers top.plane
+    ∙ ap (λ (xs : List Rect). count_of_fetches held need base_cells tiers xs) (sym lent)
+    ∙ sym (fetches_same held opened need base_cells tiers c.deref.result.now c.open_wanted.ensures.held.holds) in
+    let runs : count_of_runs held need 0 all_tiers wanted ≡ count_of_runs opened need 0 tiers c.deref.result.now +
+    length gone =
     runs_top held need all_tiers tiers tier wanted plane top.tiers top.plane
-    ∙ ap (λ n. n + length gone) (ap (λ (xs : List Rect). count_of_runs held need 0 tiers xs) (sym lent) ∙ sym (runs_same held opened need 0 tiers c.deref.result.now c.open_wanted.ensures.held.holds)) in
+    ∙ ap (λ n. n + length gone) (ap (λ (xs : List Rect). count_of_runs held need 0 tiers xs) (sym lent)
+    ∙ sym (runs_same held opened need 0 tiers c.deref.result.now c.open_wanted.ensures.held.holds)) in
     omega (arith, c.in_ok-run_missing.ensures.work, c.in_ok-make.ensures.work, fetches, runs, ap length rest)
 
 pub returns-clause-count : goal.returns-clause-count
@@ -681,8 +882,12 @@ returns-clause-count g t c =
     let input : Shape = shape_of P in
     let all = c.args.stages.now in
     let side : ℕ = c.args.side in
-    let top = on_top g.S.Stage.takes g.S.Stage.shaped g.S.Stage.apply g.met.S.Stage.makes_shapes g.met.S.Stage.makes_planes P c.shape-shape.result c.shape-shape.ensures.shape c.shape-shape.ensures.plane side all c.in-Some-split_last.below.now c.in-Some-split_last.stage.now c.args.layers.now c.in-Some-split_last-2.lower_layers.now c.in-Some-split_last-2.layer.now c.new-grid.result
-    c.in-Some-split_last.ensures.cases.0 (omega (arith, c.in-Some-split_last.ensures.cases.1)) c.in-Some-split_last-2.ensures.cases.0 c.requires.layers c.new-grid.ensures.shape c.new-grid.ensures.side in
+    let top = on_top g.S.Stage.takes g.S.Stage.shaped g.S.Stage.apply g.met.S.Stage.makes_shapes
+    g.met.S.Stage.makes_planes P c.shape-shape.result c.shape-shape.ensures.shape c.shape-shape.ensures.plane side
+    all c.in-Some-split_last.below.now c.in-Some-split_last.stage.now c.args.layers.now
+    c.in-Some-split_last-2.lower_layers.now c.in-Some-split_last-2.layer.now c.new-grid.result
+    c.in-Some-split_last.ensures.cases.0 (omega (arith, c.in-Some-split_last.ensures.cases.1))
+    c.in-Some-split_last-2.ensures.cases.0 c.requires.layers c.new-grid.ensures.shape c.new-grid.ensures.side in
     let plane : ℕ = length all in
     let tier : Tier _ = tier_on c.in-Some-split_last.stage.now c.in-Some-split_last-2.layer.now c.new-grid.result in
     let tiers : List (Tier _) = tiers_of g.S.Stage.shaped side input c.in-Some-split_last.below.now in
@@ -693,8 +898,11 @@ returns-clause-count g t c =
     let needs : List Rect = needs_of held need plane tier wanted in
     let lent : c.deref.result.now ≡ needs = c.deref.ensures.value ∙ c.in_ok-open_wanted.ensures.needs in
     let base_cells : List Rect = g.B.Base.cells_of c.args.source.now.base in
-    let fetches : count_of_fetches held need base_cells all_tiers wanted ≡ count_of_fetches opened need base_cells tiers c.deref.result.now =
-    fetches_top held need base_cells all_tiers tiers tier wanted plane top.tiers top.plane ∙ ap (λ (xs : List Rect). count_of_fetches held need base_cells tiers xs) (sym lent) ∙ sym (fetches_same held opened need base_cells tiers c.deref.result.now c.open_wanted.ensures.held.holds) in
+    let fetches : count_of_fetches held need base_cells all_tiers wanted ≡ count_of_fetches opened need base_cells tiers
+    c.deref.result.now =
+    fetches_top held need base_cells all_tiers tiers tier wanted plane top.tiers top.plane
+    ∙ ap (λ (xs : List Rect). count_of_fetches held need base_cells tiers xs) (sym lent)
+    ∙ sym (fetches_same held opened need base_cells tiers c.deref.result.now c.open_wanted.ensures.held.holds) in
     c.in_ok-make.ensures.count ∙ ap (raised (g.B.Base.fetches c.args.source.now.base)) (sym fetches)
 
 pub returns-clause-fetched : goal.returns-clause-fetched
@@ -704,8 +912,12 @@ returns-clause-fetched g t c =
     let input : Shape = shape_of P in
     let all = c.args.stages.now in
     let side : ℕ = c.args.side in
-    let top = on_top g.S.Stage.takes g.S.Stage.shaped g.S.Stage.apply g.met.S.Stage.makes_shapes g.met.S.Stage.makes_planes P c.shape-shape.result c.shape-shape.ensures.shape c.shape-shape.ensures.plane side all c.in-Some-split_last.below.now c.in-Some-split_last.stage.now c.args.layers.now c.in-Some-split_last-2.lower_layers.now c.in-Some-split_last-2.layer.now c.new-grid.result
-    c.in-Some-split_last.ensures.cases.0 (omega (arith, c.in-Some-split_last.ensures.cases.1)) c.in-Some-split_last-2.ensures.cases.0 c.requires.layers c.new-grid.ensures.shape c.new-grid.ensures.side in
+    let top = on_top g.S.Stage.takes g.S.Stage.shaped g.S.Stage.apply g.met.S.Stage.makes_shapes
+    g.met.S.Stage.makes_planes P c.shape-shape.result c.shape-shape.ensures.shape c.shape-shape.ensures.plane side
+    all c.in-Some-split_last.below.now c.in-Some-split_last.stage.now c.args.layers.now
+    c.in-Some-split_last-2.lower_layers.now c.in-Some-split_last-2.layer.now c.new-grid.result
+    c.in-Some-split_last.ensures.cases.0 (omega (arith, c.in-Some-split_last.ensures.cases.1))
+    c.in-Some-split_last-2.ensures.cases.0 c.requires.layers c.new-grid.ensures.shape c.new-grid.ensures.side in
     let plane : ℕ = length all in
     let tier : Tier _ = tier_on c.in-Some-split_last.stage.now c.in-Some-split_last-2.layer.now c.new-grid.result in
     let tiers : List (Tier _) = tiers_of g.S.Stage.shaped side input c.in-Some-split_last.below.now in
@@ -716,8 +928,11 @@ returns-clause-fetched g t c =
     let needs : List Rect = needs_of held need plane tier wanted in
     let lent : c.deref.result.now ≡ needs = c.deref.ensures.value ∙ c.in_ok-open_wanted.ensures.needs in
     let base_cells : List Rect = g.B.Base.cells_of c.args.source.now.base in
-    let fetches : count_of_fetches held need base_cells all_tiers wanted ≡ count_of_fetches opened need base_cells tiers c.deref.result.now =
-    fetches_top held need base_cells all_tiers tiers tier wanted plane top.tiers top.plane ∙ ap (λ (xs : List Rect). count_of_fetches held need base_cells tiers xs) (sym lent) ∙ sym (fetches_same held opened need base_cells tiers c.deref.result.now c.open_wanted.ensures.held.holds) in
+    let fetches : count_of_fetches held need base_cells all_tiers wanted ≡ count_of_fetches opened need base_cells tiers
+    c.deref.result.now =
+    fetches_top held need base_cells all_tiers tiers tier wanted plane top.tiers top.plane
+    ∙ ap (λ (xs : List Rect). count_of_fetches held need base_cells tiers xs) (sym lent)
+    ∙ sym (fetches_same held opened need base_cells tiers c.deref.result.now c.open_wanted.ensures.held.holds) in
     c.in_ok-make.ensures.fetched ∙ ap (raised c.args.source.now.fetched) (sym fetches)
 
 pub returns-clause-ran : goal.returns-clause-ran
@@ -728,8 +943,12 @@ returns-clause-ran g t c =
     let all = c.args.stages.now in
     let grid : Grid = c.new-grid.result in
     let side : ℕ = c.args.side in
-    let top = on_top g.S.Stage.takes g.S.Stage.shaped g.S.Stage.apply g.met.S.Stage.makes_shapes g.met.S.Stage.makes_planes P c.shape-shape.result c.shape-shape.ensures.shape c.shape-shape.ensures.plane side all c.in-Some-split_last.below.now c.in-Some-split_last.stage.now c.args.layers.now c.in-Some-split_last-2.lower_layers.now c.in-Some-split_last-2.layer.now grid
-    c.in-Some-split_last.ensures.cases.0 (omega (arith, c.in-Some-split_last.ensures.cases.1)) c.in-Some-split_last-2.ensures.cases.0 c.requires.layers c.new-grid.ensures.shape c.new-grid.ensures.side in
+    let top = on_top g.S.Stage.takes g.S.Stage.shaped g.S.Stage.apply g.met.S.Stage.makes_shapes
+    g.met.S.Stage.makes_planes P c.shape-shape.result c.shape-shape.ensures.shape c.shape-shape.ensures.plane side
+    all c.in-Some-split_last.below.now c.in-Some-split_last.stage.now c.args.layers.now
+    c.in-Some-split_last-2.lower_layers.now c.in-Some-split_last-2.layer.now grid
+    c.in-Some-split_last.ensures.cases.0 (omega (arith, c.in-Some-split_last.ensures.cases.1))
+    c.in-Some-split_last-2.ensures.cases.0 c.requires.layers c.new-grid.ensures.shape c.new-grid.ensures.side in
     let cells : List Rect = grid_cells grid.shape grid.side in
     let plane : ℕ = length all in
     let tier : Tier _ = tier_on c.in-Some-split_last.stage.now c.in-Some-split_last-2.layer.now grid in
@@ -742,10 +961,13 @@ returns-clause-ran g t c =
     let gone : List ℕ = missing held plane numbers in
     let needs : List Rect = needs_of held need plane tier wanted in
     let lent : c.deref.result.now ≡ needs = c.deref.ensures.value ∙ c.in_ok-open_wanted.ensures.needs in
-    let runs : count_of_runs held need 0 all_tiers wanted ≡ count_of_runs opened need 0 tiers c.deref.result.now + length gone =
+    let runs : count_of_runs held need 0 all_tiers wanted ≡ count_of_runs opened need 0 tiers c.deref.result.now +
+    length gone =
     runs_top held need all_tiers tiers tier wanted plane top.tiers top.plane
-    ∙ ap (λ n. n + length gone) (ap (λ (xs : List Rect). count_of_runs held need 0 tiers xs) (sym lent) ∙ sym (runs_same held opened need 0 tiers c.deref.result.now c.open_wanted.ensures.held.holds)) in
-    let many : length c.open_wanted.new.own.missing.items ≡ length gone = ap length c.in_ok-open_wanted.ensures.missing in
+    ∙ ap (λ n. n + length gone) (ap (λ (xs : List Rect). count_of_runs held need 0 tiers xs) (sym lent)
+    ∙ sym (runs_same held opened need 0 tiers c.deref.result.now c.open_wanted.ensures.held.holds)) in
+    let many : length c.open_wanted.new.own.missing.items ≡ length gone =
+    ap length c.in_ok-open_wanted.ensures.missing in
     omega (arith, many, c.in_ok-make.ensures.ran, runs, c.saturating_add.ensures, c.len.ensures)
 
 pub returns-clause-kept : goal.returns-clause-kept
@@ -756,8 +978,12 @@ returns-clause-kept g t c =
     let all = c.args.stages.now in
     let grid : Grid = c.new-grid.result in
     let side : ℕ = c.args.side in
-    let top = on_top g.S.Stage.takes g.S.Stage.shaped g.S.Stage.apply g.met.S.Stage.makes_shapes g.met.S.Stage.makes_planes P c.shape-shape.result c.shape-shape.ensures.shape c.shape-shape.ensures.plane side all c.in-Some-split_last.below.now c.in-Some-split_last.stage.now c.args.layers.now c.in-Some-split_last-2.lower_layers.now c.in-Some-split_last-2.layer.now grid
-    c.in-Some-split_last.ensures.cases.0 (omega (arith, c.in-Some-split_last.ensures.cases.1)) c.in-Some-split_last-2.ensures.cases.0 c.requires.layers c.new-grid.ensures.shape c.new-grid.ensures.side in
+    let top = on_top g.S.Stage.takes g.S.Stage.shaped g.S.Stage.apply g.met.S.Stage.makes_shapes
+    g.met.S.Stage.makes_planes P c.shape-shape.result c.shape-shape.ensures.shape c.shape-shape.ensures.plane side
+    all c.in-Some-split_last.below.now c.in-Some-split_last.stage.now c.args.layers.now
+    c.in-Some-split_last-2.lower_layers.now c.in-Some-split_last-2.layer.now grid
+    c.in-Some-split_last.ensures.cases.0 (omega (arith, c.in-Some-split_last.ensures.cases.1))
+    c.in-Some-split_last-2.ensures.cases.0 c.requires.layers c.new-grid.ensures.shape c.new-grid.ensures.side in
     let cells : List Rect = grid_cells grid.shape grid.side in
     let plane : ℕ = length all in
     let tier : Tier _ = tier_on c.in-Some-split_last.stage.now c.in-Some-split_last-2.layer.now grid in
@@ -777,10 +1003,11 @@ returns-clause-kept g t c =
     let K : Kept = g.C.Cache.kept c.args.cache.now in
     let K_opened : Kept = g.C.Cache.kept c.open_wanted.new.cache in
     let K_under : Kept = g.C.Cache.kept c.make.new.cache in
-    let front : Kept = brought_each K plane (fresh held plane numbers) in
-    let lower_kept : K_under ≡ keep held need front planes base_cells tiers needs =
+    let first : Kept = brought_each K plane (fresh held plane numbers) in
+    let lower_kept : K_under ≡ keep held need first planes base_cells tiers needs =
     c.in_ok-make.ensures.kept
-    ∙ keep_same held opened need K_opened planes base_cells tiers c.deref.result.now (λ p k. c.open_wanted.ensures.held.holds p k)
+    ∙ keep_same held opened need K_opened planes base_cells tiers c.deref.result.now
+    (λ p k. c.open_wanted.ensures.held.holds p k)
     ∙ ap (λ (rects : List Rect). keep held need K_opened planes base_cells tiers rects) lent
     ∙ ap (λ (d : Kept). keep held need d planes base_cells tiers needs) c.in_ok-open_wanted.ensures.kept in
     c.in_ok-run_missing.ensures.kept

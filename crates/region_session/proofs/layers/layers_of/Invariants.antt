@@ -1,6 +1,6 @@
 use Rattle.std.proofs.Common.{◌≡◌, take}
 use Rattle.plane_view.specs.Shapes.{IsShape}
-use Rattle.region_session.specs.Layers.{AreLayers}
+use Rattle.region_session.specs.inner.Layers.{AreLayers}
 use Rattle.region_session.specs.Stacks.{last_shape}
 use Rattle.region_session.proofs.layers.layers_of.Given as goal
 

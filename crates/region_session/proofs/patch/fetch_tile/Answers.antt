@@ -11,5 +11,6 @@ returns-clause-fetched g c =
     let moved = c.focus.new.self in
     let out = c.fetch.new.out in
     slice_copies P L moved out c.args.cell _
-    (tile_copies P c.new-tile.result moved out L c.args.cell c.new-tile.ensures.lent c.focus.ensures.loan c.focus.ensures.rect c.fetch.ensures.loan (sym c.requires.planes) c.fetch.ensures.samples)
+    (tile_copies P c.new-tile.result moved out L c.args.cell c.new-tile.ensures.lent c.focus.ensures.loan
+    c.focus.ensures.rect c.fetch.ensures.loan (sym c.requires.planes) c.fetch.ensures.samples)
     (c.focus.ensures.loan ∙ c.new-tile.ensures.lent) c.fetch.ensures.loan (search rules)

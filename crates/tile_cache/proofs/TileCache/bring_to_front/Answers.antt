@@ -1,7 +1,7 @@
 use Rattle.std.proofs.Common.{ap, List}
 use Rattle.tile_cache.specs.Cache.{cache, same_key}
 use Rattle.tile_cache.specs.Pairs.{Pair}
-use Rattle.tile_cache.specs.Inside.{entry_size}
+use Rattle.tile_cache.specs.inner.Inside.{entry_size}
 use Rattle.tile_cache.proofs.Entries.{length-promoted, promoted-pairs, sum_by-promoted}
 use Rattle.tile_cache.proofs.TileCache.bring_to_front.Goals as goal
 

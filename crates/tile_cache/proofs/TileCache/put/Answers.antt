@@ -4,7 +4,7 @@ use Rattle.std.proofs.lemmas.List.Sums.{sum_by-cons}
 use Rattle.lru.specs.LruCache.{lru_cache}
 use Rattle.tile_cache.specs.Pairs.{Cache}
 use Rattle.tile_cache.specs.Cache.{same_key, sizes}
-use Rattle.tile_cache.specs.Inside.{Entry, entry_size, pair_of}
+use Rattle.tile_cache.specs.inner.Inside.{Entry, entry_size, pair_of}
 use Rattle.tile_cache.proofs.Kept.{room_parts}
 use Rattle.tile_cache.proofs.Entries.{dropped, none-kept, put_front, sizes-after_put, stored}
 use Rattle.tile_cache.proofs.TileCache.put.Goals as goal

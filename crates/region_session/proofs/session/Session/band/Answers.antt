@@ -36,10 +36,18 @@ returns-clause-crop g c =
     let is_Q : IsPlane Q last = c.in_ok-make.ensures.whole in
     let planes : c.planes.result ≡ Q.planes = c.planes.ensures ∙ c.in_ok-make.ensures.planes ∙ sym is_Q.shape.planes in
     let last_is : last.planes ≡ (last_shape shaped (shape_of c.args.self.now.plane) c.args.self.now.stages).planes =
-    ap (λ (xs : List _). (last_shape shaped (shape_of P) xs).planes) c.deref.ensures.value ∙ ap (λ (v : _). (last_shape shaped (shape_of v.plane) v.stages).planes) c.self.view_is in
-    let long : length new ≡ area_of c.args.rect * c.planes.result = c.copy_into.auto.samples ∙ c.requires.long ∙ ap (λ (n : ℕ). area_of c.args.rect * n) (sym (planes ∙ is_Q.shape.planes ∙ last_is)) in
-    let copies = subst (λ (x : Lent). CopiesFrom (record { rect = c.args.rect; planes = c.planes.result; samples = c.args.out.now }) (record { rect = c.args.rect; planes = c.planes.result; samples = new }) x c.args.rect) c.view.ensures c.copy_into.ensures in
-    let made : new ≡ (crop Q c.args.rect).samples = copied_crop Q c.args.rect c.planes.result c.args.out.now new c.make.new.patch long planes copies (c.in_ok-make.ensures.shows 0 c.args.rect (omega arith)) in
+    ap (λ (xs : List _). (last_shape shaped (shape_of P) xs).planes) c.deref.ensures.value
+    ∙ ap (λ (v : _). (last_shape shaped (shape_of v.plane) v.stages).planes) c.self.view_is in
+    let long : length new ≡ area_of c.args.rect * c.planes.result = c.copy_into.auto.samples ∙ c.requires.long
+    ∙ ap (λ (n : ℕ). area_of c.args.rect * n) (sym (planes ∙ is_Q.shape.planes ∙ last_is)) in
+    let copies = subst (λ (x : Lent). CopiesFrom (record {
+      rect = c.args.rect;
+      planes = c.planes.result;
+      samples = c.args.out.now;
+    }) (record { rect = c.args.rect; planes = c.planes.result; samples = new }) x
+    c.args.rect) c.view.ensures c.copy_into.ensures in
+    let made : new ≡ (crop Q c.args.rect).samples = copied_crop Q c.args.rect c.planes.result c.args.out.now new
+    c.make.new.patch long planes copies (c.in_ok-make.ensures.shows 0 c.args.rect (omega arith)) in
     subst (λ (v : _). new ≡ (crop (whole_of apply v.stages v.plane) c.args.rect).samples) c.self.view_is
     (subst (λ (xs : List _). new ≡ (crop (whole_of apply xs P) c.args.rect).samples) c.deref.ensures.value made)
 
@@ -54,18 +62,36 @@ returns-clause-work g c =
     let tiles_at = λ (xs : List _). tiers_of shaped s.side (shape_of P) xs in
     let a = s.tiles.cells in
     let stamps : List ℕ = s.tiles.stamps.stamps in
-    let V : Opened _ = record { plane = P; cells = cells; fetches = g.B.Base.fetches s.source.base; stages = s.stages.items; side = s.side; budget = a.budget; fetched = s.source.fetched; ran = s.ran; stamps = s.tiles.stamps; keys = sizes a.pairs } in
-    let fetches : count_of_fetches (held_in a stamps) need cells (tiles_at c.deref.result.now) wanted ≡ missing_fetches shaped need V c.args.rect =
+    let V : Opened _ = record {
+      plane = P;
+      cells = cells;
+      fetches = g.B.Base.fetches s.source.base;
+      stages = s.stages.items;
+      side = s.side;
+      budget = a.budget;
+      fetched = s.source.fetched;
+      ran = s.ran;
+      stamps =
+          s.tiles.stamps;
+      keys = sizes a.pairs;
+    } in
+    let fetches : count_of_fetches (held_in a stamps) need cells (tiles_at c.deref.result.now) wanted
+    ≡ missing_fetches shaped need V c.args.rect =
     fetches_are need cells (tiles_at c.deref.result.now) wanted a stamps c.self.invariant.slots
-    ∙ ap (λ (xs : List _). count_of_fetches (holding (listed a stamps)) need cells (tiles_at xs) wanted) c.deref.ensures.value in
-    let runs : count_of_runs (held_in a stamps) need 0 (tiles_at c.deref.result.now) wanted ≡ missing_runs shaped need V c.args.rect =
+    ∙ ap (λ (xs : List _). count_of_fetches (holding (listed a stamps)) need cells (tiles_at xs) wanted)
+    c.deref.ensures.value in
+    let runs : count_of_runs (held_in a stamps) need 0 (tiles_at c.deref.result.now) wanted ≡ missing_runs shaped need V
+    c.args.rect =
     runs_are need cells (tiles_at c.deref.result.now) wanted a stamps c.self.invariant.slots
-    ∙ ap (λ (xs : List _). count_of_runs (holding (listed a stamps)) need 0 (tiles_at xs) wanted) c.deref.ensures.value in
+    ∙ ap (λ (xs : List _). count_of_runs (holding (listed a stamps)) need 0 (tiles_at xs) wanted) c.deref.ensures.value
+    in
     let told = c.in_ok-make.ensures in
     told.work
-    ∙ ap (λ n. c.args.work.now + (n + count_of_runs (held_in a stamps) need 0 (tiles_at c.deref.result.now) wanted)) fetches
+    ∙ ap (λ n. c.args.work.now + (n + count_of_runs (held_in a stamps) need 0 (tiles_at c.deref.result.now) wanted))
+    fetches
     ∙ ap (λ n. c.args.work.now + (missing_fetches shaped need V c.args.rect + n)) runs
-    ∙ ap (λ (v : Opened _). c.args.work.now + (missing_fetches shaped need v c.args.rect + missing_runs shaped need v c.args.rect)) c.self.view_is
+    ∙ ap (λ (v : Opened _). c.args.work.now + (missing_fetches shaped need v c.args.rect + missing_runs shaped need v
+    c.args.rect)) c.self.view_is
 
 pub returns-clause-session : goal.returns-clause-session
 returns-clause-session g c =
@@ -78,13 +104,29 @@ returns-clause-session g c =
     let tiles_at = λ (xs : List _). tiers_of shaped s.side (shape_of P) xs in
     let a = s.tiles.cells in
     let stamps : List ℕ = s.tiles.stamps.stamps in
-    let V : Opened _ = record { plane = P; cells = cells; fetches = g.B.Base.fetches s.source.base; stages = s.stages.items; side = s.side; budget = a.budget; fetched = s.source.fetched; ran = s.ran; stamps = s.tiles.stamps; keys = sizes a.pairs } in
-    let fetches : count_of_fetches (held_in a stamps) need cells (tiles_at c.deref.result.now) wanted ≡ missing_fetches shaped need V c.args.rect =
+    let V : Opened _ = record {
+      plane = P;
+      cells = cells;
+      fetches = g.B.Base.fetches s.source.base;
+      stages = s.stages.items;
+      side = s.side;
+      budget = a.budget;
+      fetched = s.source.fetched;
+      ran = s.ran;
+      stamps =
+          s.tiles.stamps;
+      keys = sizes a.pairs;
+    } in
+    let fetches : count_of_fetches (held_in a stamps) need cells (tiles_at c.deref.result.now) wanted
+    ≡ missing_fetches shaped need V c.args.rect =
     fetches_are need cells (tiles_at c.deref.result.now) wanted a stamps c.self.invariant.slots
-    ∙ ap (λ (xs : List _). count_of_fetches (holding (listed a stamps)) need cells (tiles_at xs) wanted) c.deref.ensures.value in
-    let runs : count_of_runs (held_in a stamps) need 0 (tiles_at c.deref.result.now) wanted ≡ missing_runs shaped need V c.args.rect =
+    ∙ ap (λ (xs : List _). count_of_fetches (holding (listed a stamps)) need cells (tiles_at xs) wanted)
+    c.deref.ensures.value in
+    let runs : count_of_runs (held_in a stamps) need 0 (tiles_at c.deref.result.now) wanted ≡ missing_runs shaped need V
+    c.args.rect =
     runs_are need cells (tiles_at c.deref.result.now) wanted a stamps c.self.invariant.slots
-    ∙ ap (λ (xs : List _). count_of_runs (holding (listed a stamps)) need 0 (tiles_at xs) wanted) c.deref.ensures.value in
+    ∙ ap (λ (xs : List _). count_of_runs (holding (listed a stamps)) need 0 (tiles_at xs) wanted) c.deref.ensures.value
+    in
     let told = c.in_ok-make.ensures in
     let new = c.make.new.cache in
     let keys : sizes new.cells.pairs ≡ keys_after shaped need V c.args.rect =
@@ -92,11 +134,23 @@ returns-clause-session g c =
     ∙ keys_are need cells (tiles_at c.deref.result.now) wanted a stamps c.self.invariant.slots P.planes
     ∙ ap (λ (xs : List _). keep_of need (listed a stamps) P.planes cells (tiles_at xs) wanted) c.deref.ensures.value) in
     let budget : new.cells.budget ≡ a.budget = ap (λ (m : Marks). m.budget) told.marks in
-    let same : new.stamps ≡ s.tiles.stamps = ap (λ (m : Marks). record { stamps = m.stamps; changes = m.changes }) told.marks in
+    let same : new.stamps ≡ s.tiles.stamps = ap (λ (m : Marks). record { stamps = m.stamps; changes = m.changes })
+    told.marks in
     let count = told.count ∙ ap (raised (g.B.Base.fetches s.source.base)) fetches in
     let fetched = told.fetched ∙ ap (raised s.source.fetched) fetches in
     let ran = told.ran ∙ ap (raised s.ran) runs in
-    (λ i. record { plane = told.plane i; cells = told.base_cells i; fetches = count i; stages = s.stages.items; side = s.side; budget = budget i; fetched = fetched i; ran = ran i; stamps = same i; keys = keys i })
+    (λ i. record {
+      plane = told.plane i;
+      cells = told.base_cells i;
+      fetches = count i;
+      stages = s.stages.items;
+      side = s.side;
+      budget = budget i;
+      fetched = fetched i;
+      ran = ran i;
+      stamps = same i;
+      keys = keys i;
+    })
     ∙ ap (λ (v : Opened _).
     record v {
       fetches = raised v.fetches (missing_fetches shaped need v c.args.rect);
@@ -116,13 +170,29 @@ returns-clause-nothing g c = λ zero none.
     let tiles_at = λ (xs : List _). tiers_of shaped s.side (shape_of P) xs in
     let a = s.tiles.cells in
     let stamps : List ℕ = s.tiles.stamps.stamps in
-    let V : Opened _ = record { plane = P; cells = cells; fetches = g.B.Base.fetches s.source.base; stages = s.stages.items; side = s.side; budget = a.budget; fetched = s.source.fetched; ran = s.ran; stamps = s.tiles.stamps; keys = sizes a.pairs } in
-    let fetches : count_of_fetches (held_in a stamps) need cells (tiles_at c.deref.result.now) wanted ≡ missing_fetches shaped need V c.args.rect =
+    let V : Opened _ = record {
+      plane = P;
+      cells = cells;
+      fetches = g.B.Base.fetches s.source.base;
+      stages = s.stages.items;
+      side = s.side;
+      budget = a.budget;
+      fetched = s.source.fetched;
+      ran = s.ran;
+      stamps =
+          s.tiles.stamps;
+      keys = sizes a.pairs;
+    } in
+    let fetches : count_of_fetches (held_in a stamps) need cells (tiles_at c.deref.result.now) wanted
+    ≡ missing_fetches shaped need V c.args.rect =
     fetches_are need cells (tiles_at c.deref.result.now) wanted a stamps c.self.invariant.slots
-    ∙ ap (λ (xs : List _). count_of_fetches (holding (listed a stamps)) need cells (tiles_at xs) wanted) c.deref.ensures.value in
-    let runs : count_of_runs (held_in a stamps) need 0 (tiles_at c.deref.result.now) wanted ≡ missing_runs shaped need V c.args.rect =
+    ∙ ap (λ (xs : List _). count_of_fetches (holding (listed a stamps)) need cells (tiles_at xs) wanted)
+    c.deref.ensures.value in
+    let runs : count_of_runs (held_in a stamps) need 0 (tiles_at c.deref.result.now) wanted ≡ missing_runs shaped need V
+    c.args.rect =
     runs_are need cells (tiles_at c.deref.result.now) wanted a stamps c.self.invariant.slots
-    ∙ ap (λ (xs : List _). count_of_runs (holding (listed a stamps)) need 0 (tiles_at xs) wanted) c.deref.ensures.value in
+    ∙ ap (λ (xs : List _). count_of_runs (holding (listed a stamps)) need 0 (tiles_at xs) wanted) c.deref.ensures.value
+    in
     let told = c.in_ok-make.ensures in
     let new = c.make.new.cache in
     let keys : sizes new.cells.pairs ≡ keys_after shaped need V c.args.rect =
@@ -138,6 +208,8 @@ returns-clause-nothing g c = λ zero none.
     let up : MakeUp cells input = record { part = are.part; covered = are.covered; apart = are.apart } in
     let list : Kept = listed a stamps in
     let same : keep_of need list P.planes cells (tiles_at s.stages.items) wanted ≡ list =
-    keep_unkept (holding list) need list P.planes cells (tiles_at s.stages.items) wanted (record { none = none_kept; zero = no_budget }) (cells_have_samples input cells up is)
-    (tiers_have_samples g.S.Stage.takes shaped g.met.S.Stage.makes_shapes s.side (omega (arith, c.self.invariant.least)) input s.stages.items s.layers.items c.self.invariant.stand is) in
+    keep_unkept (holding list) need list P.planes cells (tiles_at s.stages.items) wanted
+    (record { none = none_kept; zero = no_budget }) (cells_have_samples input cells up is)
+    (tiers_have_samples g.S.Stage.takes shaped g.met.S.Stage.makes_shapes s.side (omega (arith, c.self.invariant.least))
+    input s.stages.items s.layers.items c.self.invariant.stand is) in
     keys ∙ ap (λ (K : Kept). K.items) same ∙ none_kept

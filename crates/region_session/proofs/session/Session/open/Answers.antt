@@ -9,7 +9,7 @@ use Rattle.stage_chain.specs.Chains.{TakeInTurn}
 use Rattle.tile_cache.specs.Pairs.{Cache}
 use Rattle.kept_cells.specs.Tiers.{tiers_of}
 use Rattle.kept_cells.specs.Tiling.{held_in}
-use Rattle.region_session.specs.Layers.{AreLayers}
+use Rattle.region_session.specs.inner.Layers.{AreLayers}
 use Rattle.region_session.specs.Stacks.{IsFirstRefusal}
 use Rattle.region_session.proofs.Layering.{in_turn}
 use Rattle.region_session.proofs.Replacing.{nothing_right}
@@ -21,15 +21,19 @@ returns-in_err-layers-clause-refused g c =
     let P : Plane = g.B.Base.plane c.args.base in
     rw (p.1, p.2)
     (λ k is.
-    subst (λ (t : Shape). IsFirstRefusal g.S.Stage.takes g.S.Stage.shaped c.args.stages.items t k) (sym (shape_is P c.shape.result c.shape.ensures.plane))
-    (subst (λ (xs : List _). IsFirstRefusal g.S.Stage.takes g.S.Stage.shaped xs c.shape.result k) c.deref.ensures.value (c.in_err-layers.ensures.refused k is)))
+    subst (λ (t : Shape). IsFirstRefusal g.S.Stage.takes g.S.Stage.shaped c.args.stages.items t k)
+    (sym (shape_is P c.shape.result c.shape.ensures.plane))
+    (subst (λ (xs : List _). IsFirstRefusal g.S.Stage.takes g.S.Stage.shaped xs c.shape.result k) c.deref.ensures.value
+    (c.in_err-layers.ensures.refused k is)))
 
 pub returns-clause-takes : goal.returns-clause-takes
 returns-clause-takes g c =
     let P : Plane = g.B.Base.plane c.args.base in
-    subst (λ (t : Shape). TakeInTurn g.S.Stage.takes g.S.Stage.shaped c.args.stages.items t) (sym (shape_is P c.shape.result c.shape.ensures.plane))
+    subst (λ (t : Shape). TakeInTurn g.S.Stage.takes g.S.Stage.shaped c.args.stages.items t)
+    (sym (shape_is P c.shape.result c.shape.ensures.plane))
     (subst (λ (xs : List _). TakeInTurn g.S.Stage.takes g.S.Stage.shaped xs c.shape.result) c.deref.ensures.value
-    (in_turn g.S.Stage.takes g.S.Stage.shaped c.shape.result c.deref.result.now c.in_ok-layers.layers.items c.in_ok-layers.ensures.layers))
+    (in_turn g.S.Stage.takes g.S.Stage.shaped c.shape.result c.deref.result.now c.in_ok-layers.layers.items
+    c.in_ok-layers.ensures.layers))
 
 pub invariant_of-result : goal.invariant_of-result
 invariant_of-result g c =
@@ -39,12 +43,15 @@ invariant_of-result g c =
     let tiles = c.in_ok-tiles.tiles in
     let stamps : List ℕ = tiles.stamps.stamps in
     let made : tiles.cells ≡ _ = c.in_ok-tiles.ensures.cells in
-    let none : (p k : ℕ) → (held_in tiles.cells stamps).holds p k ≡ false = λ p k. ap (λ (d : Cache). (held_in d stamps).holds p k) made in
+    let none : (p k : ℕ) → (held_in tiles.cells stamps).holds p k ≡ false =
+    λ p k. ap (λ (d : Cache). (held_in d stamps).holds p k) made in
     record {
       same = c.in_ok-cells.ensures;
       stand =
-          subst (λ (t : Shape). AreLayers takes shaped t c.args.stages.items c.in_ok-layers.layers.items) (sym (shape_is P c.shape.result c.shape.ensures.plane))
-          (subst (λ (xs : List _). AreLayers takes shaped c.shape.result xs c.in_ok-layers.layers.items) c.deref.ensures.value c.in_ok-layers.ensures.layers);
+          subst (λ (t : Shape). AreLayers takes shaped t c.args.stages.items c.in_ok-layers.layers.items)
+          (sym (shape_is P c.shape.result c.shape.ensures.plane))
+          (subst (λ (xs : List _). AreLayers takes shaped c.shape.result xs c.in_ok-layers.layers.items)
+          c.deref.ensures.value c.in_ok-layers.ensures.layers);
       some = c.requires.some;
       few = c.requires.few;
       room = search rules;
@@ -54,5 +61,6 @@ invariant_of-result g c =
       slots = ap (λ (d : Cache). d.slots) made;
       small = omega (arith, c.requires.budget, ap (λ (d : Cache). d.budget) made);
       base_right = λ k below now. let both : true ≡ false = sym now ∙ none 0 k in cc;
-      right = nothing_right g.S.Stage.apply (held_in tiles.cells stamps) 0 P (tiers_of shaped c.args.cell (shape_of P) c.args.stages.items) (λ p k high low. none p k);
+      right = nothing_right g.S.Stage.apply (held_in tiles.cells stamps) 0 P
+          (tiers_of shaped c.args.cell (shape_of P) c.args.stages.items) (λ p k high low. none p k);
     }

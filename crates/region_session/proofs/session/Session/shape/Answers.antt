@@ -17,12 +17,26 @@ use Rattle.region_session.proofs.session.Session.shape.Goals as goal
 pub overflow_sub-len : goal.overflow_sub-len
 overflow_sub-len g c =
     let s = c.self.inside in
-    omega (arith, as_many g.S.Stage.takes g.S.Stage.shaped (shape_of (g.B.Base.plane s.source.base)) s.stages.items s.layers.items c.self.invariant.stand, c.self.invariant.some, c.len.ensures, s.layers.ok)
+    omega (
+      arith,
+      as_many g.S.Stage.takes g.S.Stage.shaped (shape_of (g.B.Base.plane s.source.base)) s.stages.items
+          s.layers.items c.self.invariant.stand,
+      c.self.invariant.some,
+      c.len.ensures,
+      s.layers.ok,
+    )
 
 pub index-requires : goal.index-requires
 index-requires g c =
     let s = c.self.inside in
-    omega (arith, as_many g.S.Stage.takes g.S.Stage.shaped (shape_of (g.B.Base.plane s.source.base)) s.stages.items s.layers.items c.self.invariant.stand, c.self.invariant.some, c.len.ensures, s.layers.ok)
+    omega (
+      arith,
+      as_many g.S.Stage.takes g.S.Stage.shaped (shape_of (g.B.Base.plane s.source.base)) s.stages.items
+          s.layers.items c.self.invariant.stand,
+      c.self.invariant.some,
+      c.len.ensures,
+      s.layers.ok,
+    )
 
 pub returns-clause-shape : goal.returns-clause-shape
 returns-clause-shape g c =
@@ -33,9 +47,13 @@ returns-clause-shape g c =
     let stages = s.stages.items in
     let many = as_many takes shaped input stages s.layers.items c.self.invariant.stand in
     let place : c.len.result - 1 ≡ length stages - 1 = omega (arith, many, c.len.ensures, s.layers.ok) in
-    let here : slice_get s.layers.items (c.len.result - 1) ≡ Some c.index.result.now = slice_get_read s.layers.items (length s.layers.items) (c.len.result - 1) c.index.result.now refl (omega (arith, many, c.self.invariant.some, c.len.ensures, s.layers.ok)) c.index.ensures in
-    let at : slice_get s.layers.items (length stages - 1) ≡ Some c.index.result.now = ap (slice_get s.layers.items) (sym place) ∙ here in
-    let of = layer_of takes shaped input stages s.layers.items (length stages) c.index.result.now c.self.invariant.stand c.self.invariant.some (omega arith) at in
+    let here : slice_get s.layers.items (c.len.result - 1) ≡ Some c.index.result.now =
+    slice_get_read s.layers.items (length s.layers.items) (c.len.result - 1) c.index.result.now refl
+    (omega (arith, many, c.self.invariant.some, c.len.ensures, s.layers.ok)) c.index.ensures in
+    let at : slice_get s.layers.items (length stages - 1) ≡ Some c.index.result.now =
+    ap (slice_get s.layers.items) (sym place) ∙ here in
+    let of = layer_of takes shaped input stages s.layers.items (length stages) c.index.result.now c.self.invariant.stand
+    c.self.invariant.some (omega arith) at in
     subst (λ (v : _). c.index.result.now.shape ≡ last_shape shaped (shape_of v.plane) v.stages) c.self.view_is
     (of.makes ∙ ap (last_shape shaped input) (take_all (length stages) stages (omega arith)))
 
@@ -48,10 +66,15 @@ returns-clause-limits g c =
     let stages = s.stages.items in
     let many = as_many takes shaped input stages s.layers.items c.self.invariant.stand in
     let place : c.len.result - 1 ≡ length stages - 1 = omega (arith, many, c.len.ensures, s.layers.ok) in
-    let here : slice_get s.layers.items (c.len.result - 1) ≡ Some c.index.result.now = slice_get_read s.layers.items (length s.layers.items) (c.len.result - 1) c.index.result.now refl (omega (arith, many, c.self.invariant.some, c.len.ensures, s.layers.ok)) c.index.ensures in
-    let at : slice_get s.layers.items (length stages - 1) ≡ Some c.index.result.now = ap (slice_get s.layers.items) (sym place) ∙ here in
-    let of = layer_of takes shaped input stages s.layers.items (length stages) c.index.result.now c.self.invariant.stand c.self.invariant.some (omega arith) at in
-    subst IsShape (sym of.is.shape) (g.met.S.Stage.makes_shapes of.stage c.index.result.now.input of.is.input of.is.taken)
+    let here : slice_get s.layers.items (c.len.result - 1) ≡ Some c.index.result.now =
+    slice_get_read s.layers.items (length s.layers.items) (c.len.result - 1) c.index.result.now refl
+    (omega (arith, many, c.self.invariant.some, c.len.ensures, s.layers.ok)) c.index.ensures in
+    let at : slice_get s.layers.items (length stages - 1) ≡ Some c.index.result.now =
+    ap (slice_get s.layers.items) (sym place) ∙ here in
+    let of = layer_of takes shaped input stages s.layers.items (length stages) c.index.result.now c.self.invariant.stand
+    c.self.invariant.some (omega arith) at in
+    subst IsShape (sym of.is.shape) (g.met.S.Stage.makes_shapes of.stage c.index.result.now.input of.is.input
+    of.is.taken)
 
 pub returns-clause-takes : goal.returns-clause-takes
 returns-clause-takes g c =
@@ -59,7 +82,8 @@ returns-clause-takes g c =
     let takes = g.S.Stage.takes in
     let shaped = g.S.Stage.shaped in
     subst (λ (v : _). TakeInTurn takes shaped v.stages (shape_of v.plane)) c.self.view_is
-    (in_turn takes shaped (shape_of (g.B.Base.plane s.source.base)) s.stages.items s.layers.items c.self.invariant.stand)
+    (in_turn takes shaped (shape_of (g.B.Base.plane s.source.base)) s.stages.items s.layers.items
+    c.self.invariant.stand)
 
 pub returns-clause-plane : goal.returns-clause-plane
 returns-clause-plane g c =
@@ -71,6 +95,8 @@ returns-clause-plane g c =
     let is : c.shape-base.result ≡ input = sym (shape_is P c.shape-base.result c.shape-base.ensures.plane) in
     let limits : IsShape input = subst IsShape is c.shape-base.ensures.shape in
     let plane : IsPlane P input = subst (IsPlane P) is c.shape-base.ensures.plane in
-    let whole = whole_is g.S.Stage.takes shaped apply g.met.S.Stage.makes_shapes g.met.S.Stage.makes_planes input s.stages.items s.layers.items P c.self.invariant.stand limits plane in
+    let whole = whole_is g.S.Stage.takes shaped apply g.met.S.Stage.makes_shapes g.met.S.Stage.makes_planes input
+    s.stages.items s.layers.items P c.self.invariant.stand limits plane in
     subst (IsPlane (whole_of apply c.args.self.now.stages c.args.self.now.plane)) (sym (returns-clause-shape g c))
-    (subst (λ (v : _). IsPlane (whole_of apply v.stages v.plane) (last_shape shaped (shape_of v.plane) v.stages)) c.self.view_is whole)
+    (subst (λ (v : _). IsPlane (whole_of apply v.stages v.plane) (last_shape shaped (shape_of v.plane) v.stages))
+    c.self.view_is whole)

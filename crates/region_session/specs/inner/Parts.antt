@@ -19,12 +19,14 @@ IsWanted wanted r c = (j : ℕ) × (j < length wanted) × HasPixel (cell_at want
 -- a part has a plane's samples at the wanted pixels of the cells of these numbers
 pub record HasCells (P : Plane) (L : Lent) (wanted cells : List Rect) (numbers : List ℕ) : Type 0 where
   pub planes : P.planes ≡ L.planes
-  pub samples : (k r c p : ℕ) → Contains numbers k → HasPixel (cell_at cells k) r c → IsWanted wanted r c → HasPixel L.rect r c → p < P.planes → sample P r c p ≡ sample_at L r c p
+  pub samples : (k r c p : ℕ) → Contains numbers k → HasPixel (cell_at cells k) r c → IsWanted wanted r c
+      → HasPixel L.rect r c → p < P.planes → sample P r c p ≡ sample_at L r c p
 
 -- a part has a plane's samples at the wanted pixels of these rectangles
 pub record IsFilled (P : Plane) (L : Lent) (wanted rects : List Rect) : Type 0 where
   pub planes : P.planes ≡ L.planes
-  pub samples : (i r c p : ℕ) → i < length rects → HasPixel (cell_at rects i) r c → IsWanted wanted r c → HasPixel L.rect r c → p < P.planes → sample P r c p ≡ sample_at L r c p
+  pub samples : (i r c p : ℕ) → i < length rects → HasPixel (cell_at rects i) r c → IsWanted wanted r c
+      → HasPixel L.rect r c → p < P.planes → sample P r c p ≡ sample_at L r c p
 
 -- a window of a rectangle has the wanted pixels of it
 abbrev pub HasWanted : (window rect : Rect) → List Rect → Type 0
@@ -38,4 +40,5 @@ pub record Shows (P : Plane) (L : Lent) (rect : Rect) : Type 0 where
 -- the cells of a plane with these numbers that are held have the sizes of these rectangles
 abbrev pub HaveSizes : Held → (plane planes : ℕ) → List ℕ → List Rect → Type 0
 HaveSizes held plane planes numbers rects =
-    (i : ℕ) → i < length numbers → held.holds plane (get_or numbers i 0) ≡ true → length (held.samples plane (get_or numbers i 0)) ≡ area_of (cell_at rects i) * planes
+    (i : ℕ) → i < length numbers → held.holds plane (get_or numbers i 0) ≡ true
+    → length (held.samples plane (get_or numbers i 0)) ≡ area_of (cell_at rects i) * planes

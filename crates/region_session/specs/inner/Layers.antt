@@ -5,7 +5,8 @@ use Rattle.plane_view.specs.Shapes.{IsShape}
 use Rattle.region_session.specs.declared.layers.Layer.{Layer}
 
 -- the shapes below and above a stage that takes the one below
-pub record IsLayer {S : Type 0} (takes : S → Shape → Type 0) (shaped : S → Shape → Shape) (stage : S) (layer : Layer) : Type 0 where
+pub record IsLayer {S : Type 0} (takes : S → Shape → Type 0) (shaped : S → Shape → Shape) (stage : S)
+    (layer : Layer) : Type 0 where
   pub input : IsShape layer.input
   pub taken : takes stage layer.input
   pub shape : layer.shape ≡ shaped stage layer.input

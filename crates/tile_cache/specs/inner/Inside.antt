@@ -1,4 +1,4 @@
--- How the fields of a cache stand for its pairs.
+-- How the fields of a cache stand for its pairs. This is this project's own.
 use Rattle.std.specs.Prelude.{◌≡◌, ℕ, ◌<◌, ◌≤◌, ◌^◌, length, map, Vec}
 use Rattle.std.specs.List.{sum_by}
 use Rattle.std.specs.declared.alloc.Global.{Global}

@@ -1,7 +1,7 @@
 -- Laws of the stage of the examples: it makes the plane that it is given, and asks for some pixels more on each side.
-use Rattle.std.proofs.Common.{◌≡◌, ℕ, ◌≤◌, Bool, true, false, ◌&&◌, refl, ap, subst, arith}
+use Rattle.std.proofs.Common.{◌≡◌, ℕ, ◌≤◌, true, ◌&&◌, ap, subst, arith}
 use Rattle.std.proofs.Math.Dec.{eqb}
-use Rattle.std.proofs.lemmas.Bool.{eqb-true}
+use Rattle.std.proofs.lemmas.Bool.{and_parts, eqb-true}
 use Rattle.plane_view.specs.declared.Rect.{Rect}
 use Rattle.plane_view.specs.declared.Shape.{Shape}
 use Rattle.plane_view.specs.Rectangles.{HasPixel, grown, whole_rect}
@@ -23,27 +23,26 @@ margin_part by input rect part =
     }
 
 -- a pixel of a rectangle is one of it with its margin
-pub margin_pixel : (by : ℕ) (input : Shape) (rect : Rect) (r c : ℕ) → IsPart rect input → HasPixel rect r c → HasPixel (margin by input rect) r c
+pub margin_pixel : (by : ℕ) (input : Shape) (rect : Rect) (r c : ℕ) → IsPart rect input → HasPixel rect r c
+    → HasPixel (margin by input rect) r c
 margin_pixel by input rect r c part pixel =
     let inside = part.inside in
     record { top = omega arith; bottom = omega arith; left = omega arith; right = omega arith }
 
-pub margin_local : (by : ℕ) (input : Shape) (rect : Rect) → IsPart rect input → IsLocal (λ P. P) input (margin by input rect) rect
+pub margin_local : (by : ℕ) (input : Shape) (rect : Rect) → IsPart rect input
+    → IsLocal (λ P. P) input (margin by input rect) rect
 margin_local by input rect part P Q is_P is_Q agrees =
-    agrees_with_crop P Q rect agrees.planes (λ r c p pixel plane. agree_at P Q (margin by input rect) r c p agrees (margin_pixel by input rect r c part pixel) plane)
-
--- both of two tests
-and-left : (a b : Bool) → (a && b) ≡ true → a ≡ true
-and-left true b both = refl
-and-left false b both = both
-
-and-right : (a b : Bool) → (a && b) ≡ true → b ≡ true
-and-right true b both = both
-and-right false b both = absurd (cc)
+    agrees_with_crop P Q rect agrees.planes (λ r c p pixel plane. agree_at P Q (margin by input rect) r c p agrees
+    (margin_pixel by input rect r c part pixel) plane)
 
 -- equal margins ask for the same, and equal limits take the same
-pub same_margin : (one other most limit : ℕ) (input : Shape) (rect : Rect) → (eqb one other && eqb most limit) ≡ true → margin one input rect ≡ margin other input rect
-same_margin one other most limit input rect same = let is : one ≡ other = eqb-true one other (and-left (eqb one other) (eqb most limit) same) in ap (λ (by : ℕ). margin by input rect) is
+pub same_margin : (one other most limit : ℕ) (input : Shape) (rect : Rect) → (eqb one other && eqb most limit) ≡ true
+    → margin one input rect ≡ margin other input rect
+same_margin one other most limit input rect same =
+    let is : one ≡ other = eqb-true one other (and_parts (eqb one other) (eqb most limit) same).0 in
+    ap (λ (by : ℕ). margin by input rect) is
 
 pub same_most : (one other most limit rows : ℕ) → (eqb one other && eqb most limit) ≡ true → rows ≤ most → rows ≤ limit
-same_most one other most limit rows same below = let is : most ≡ limit = eqb-true most limit (and-right (eqb one other) (eqb most limit) same) in subst (λ (n : ℕ). rows ≤ n) is below
+same_most one other most limit rows same below =
+    let is : most ≡ limit = eqb-true most limit (and_parts (eqb one other) (eqb most limit) same).1 in
+    subst (λ (n : ℕ). rows ≤ n) is below

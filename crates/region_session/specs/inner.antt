@@ -1,0 +1,5 @@
+-- Words for the contracts between functions of this crate.
+pub mod Examples
+pub mod Layers
+pub mod Parts
+pub mod Soundness
