@@ -12,11 +12,13 @@ empty : settings_of ([]) ≡ Ok standard_settings
 unfolding settings_of document_of is_utf8 chars encode_utf8 toml_on_literals
 empty = refl
 
-two_keys : settings_of (codes "tone = 'root' # a curve\nversion = 1\nwb = [1, 2,\n 3,]\n") ≡ Ok (record standard_settings { tone = Root; wb = Some (1 ∷ 2 ∷ 3 ∷ []) })
+two_keys : settings_of (codes "tone = 'root' # a curve\nversion = 1\nwb = [1, 2,\n 3,]\n")
+    ≡ Ok (record standard_settings { tone = Root; wb = Some (1 ∷ 2 ∷ 3 ∷ []) })
 unfolding settings_of document_of is_utf8 chars encode_utf8 toml_on_literals
 two_keys = refl
 
-knots : settings_of (codes "tone = [0, 7, 65535, 9]") ≡ Ok (record standard_settings { tone = Knots ((0, 7) ∷ (65535, 9) ∷ []) })
+knots : settings_of (codes "tone = [0, 7, 65535, 9]")
+    ≡ Ok (record standard_settings { tone = Knots ((0, 7) ∷ (65535, 9) ∷ []) })
 unfolding settings_of document_of is_utf8 chars encode_utf8 toml_on_literals
 knots = refl
 
@@ -25,7 +27,10 @@ unfolding settings_of document_of is_utf8 chars encode_utf8 toml_on_literals
 three_integers = refl
 
 matrix : settings_of (codes "matrix = [-2, 0, 0, 0, 1, 0, 0, 0, 0x1_0]")
-    ≡ Ok (record standard_settings { matrix = Own (negsuc 1 ∷ pos 0 ∷ pos 0 ∷ pos 0 ∷ pos 1 ∷ pos 0 ∷ pos 0 ∷ pos 0 ∷ pos 16 ∷ []) })
+    ≡ Ok (record standard_settings {
+      matrix = Own (negsuc 1 ∷ pos 0 ∷ pos 0 ∷ pos 0 ∷ pos 1 ∷ pos 0 ∷ pos 0 ∷ pos 0 ∷
+          pos 16 ∷ []);
+    })
 unfolding settings_of document_of is_utf8 chars encode_utf8 toml_on_literals
 matrix = refl
 

@@ -1,6 +1,7 @@
 pub mod Examples
 pub mod FileExamples
 pub mod FileLemmas
+pub mod LineLaws
 pub mod LineLemmas
 pub mod Order
 pub mod PlaceLemmas

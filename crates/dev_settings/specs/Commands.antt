@@ -1,5 +1,6 @@
 -- The command of a script line, which is this project's own.
-use Rattle.std.specs.Prelude.{ℕ, ℤ, Bool, true, false, List, [], ◌∷◌, Option, Some, None, Result, Ok, Err, ok_or, option_map, option_and_then, ◌&&◌, if◌then◌else◌, nat_lt, codes, bytes_eq}
+use Rattle.std.specs.Prelude.{ℕ, ℤ, Bool, true, false, List, [], ◌∷◌, Option, Some, None, Result, Ok, Err, ok_or}
+use Rattle.std.specs.Prelude.{option_map, option_and_then, ◌&&◌, if◌then◌else◌, nat_lt, codes, bytes_eq}
 use Rattle.dev_settings.specs.declared.format.Format.{Format}
 use Rattle.dev_settings.specs.declared.command.Command.{Command}
 use Rattle.dev_settings.specs.declared.command.Command.TheVariants.{Set, Region, Stat}
@@ -32,7 +33,8 @@ abbrev pub curve_value_of : List (List ℕ) → Option Written
 curve_value_of [] = None
 curve_value_of (word ∷ []) = if bytes_eq word (codes "knots") then Some (integers []) else Some (name word)
 curve_value_of (word ∷ other ∷ ws) =
-    if bytes_eq word (codes "knots") then option_map (λ ns. integers ns) (integers_of unsigned_of (other ∷ ws)) else None
+    if bytes_eq word (codes "knots") then option_map (λ ns. integers ns) (integers_of unsigned_of (other ∷ ws))
+    else None
 
 -- the value that the words after a key give
 abbrev pub key_value_of : Key → List (List ℕ) → Option Written
@@ -43,7 +45,8 @@ key_value_of _ ws = value_of false ws
 -- the command of a key and the words after it
 abbrev pub set_of_key : Option Key → List (List ℕ) → Result Command LineFault
 set_of_key None ws = Err fault.Key
-set_of_key (Some key) ws = ok_or (option_map (λ change. Set change) (option_and_then (change_of key) (key_value_of key ws))) fault.Value
+set_of_key (Some key) ws =
+    ok_or (option_map (λ change. Set change) (option_and_then (change_of key) (key_value_of key ws))) fault.Value
 
 -- the command of the words after `set`: a key and its value
 abbrev pub set_of : List (List ℕ) → Result Command LineFault

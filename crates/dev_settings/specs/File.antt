@@ -1,6 +1,7 @@
 -- The settings of a file: the TOML document that its bytes are, as the reader of TOML defines it. The keys and their
 -- values are this project's own.
-use Rattle.std.specs.Prelude.{◌≡◌, ℕ, Bool, true, false, ◌||◌, List, [], ◌∷◌, Option, Some, None, Result, Ok, Err, codes, bytes_eq, is_some, option_map, option_and_then, if◌then◌else◌}
+use Rattle.std.specs.Prelude.{◌≡◌, ℕ, Bool, true, false, ◌||◌, List, [], ◌∷◌, Option, Some, None, Result, Ok, Err}
+use Rattle.std.specs.Prelude.{codes, bytes_eq, is_some, option_map, option_and_then, if◌then◌else◌}
 use Rattle.std.specs.Ordering.{nat_cmp, is_gt}
 use Rattle.std.specs.Cmp.Lexicographic.{slice_cmp}
 use Rattle.std.specs.Str.{is_utf8}
@@ -25,18 +26,19 @@ document_of bytes = if is_utf8 bytes then parse_document bytes else None
 
 -- the key is `version` or that of a setting
 abbrev pub is_known : List ℕ → Bool
-is_known word = bytes_eq word (codes "version") || is_some (key_of word)
+is_known key_name = bytes_eq key_name (codes "version") || is_some (key_of key_name)
 
 -- the first key that isn't known; a table's members stand in the byte order of their keys
 abbrev pub first_unknown : Members → Option (List ℕ)
 first_unknown no_members = None
-first_unknown (member word held rest) = if is_known word then first_unknown rest else Some word
+first_unknown (member key_name held rest) = if is_known key_name then first_unknown rest else Some key_name
 
 -- the same, by the byte order alone: the key isn't known, the table has it, and no other such key comes before it
-pub record IsLeastUnknown (ms : Members) (word : List ℕ) : Type 0 where
-  pub unknown : is_known word ≡ false
-  pub there : is_some (get_member word ms) ≡ true
-  pub least : (other : List ℕ) → is_known other ≡ false → is_some (get_member other ms) ≡ true → is_gt (slice_cmp nat_cmp word other) ≡ false
+pub record IsLeastUnknown (ms : Members) (key_name : List ℕ) : Type 0 where
+  pub unknown : is_known key_name ≡ false
+  pub there : is_some (get_member key_name ms) ≡ true
+  pub least : (other : List ℕ) → is_known other ≡ false → is_some (get_member other ms) ≡ true
+      → is_gt (slice_cmp nat_cmp key_name other) ≡ false
 
 -- the items of an array
 abbrev pub listed : Items → List Data
@@ -58,7 +60,8 @@ is_version_one (Some held) = is_some (option_and_then (within 1 1) (as_integer h
 -- the settings after a key's value, where there is one; None where it has a wrong form or is out of range
 abbrev pub with_value : Key → Option Data → Settings → Option Settings
 with_value key None settings = Some settings
-with_value key (Some held) settings = option_map (λ change. changed change settings) (option_and_then (change_of key) (data_value_of held))
+with_value key (Some held) settings =
+    option_map (λ change. changed change settings) (option_and_then (change_of key) (data_value_of held))
 
 -- these settings passed on, or the key whose value is wrong
 abbrev pub passed_on : Key → (Settings → Result Settings Key) → Option Settings → Result Settings Key
@@ -71,6 +74,7 @@ settings_from ms [] settings = Ok settings
 settings_from ms (key ∷ rest) settings =
     passed_on key (λ next. settings_from ms rest next) (with_value key (get_member (name_of key) ms) settings)
 
+-- the settings, or the refusal of the key whose value is wrong
 abbrev pub or_wrong_value : Result Settings Key → Result Settings Refusal
 or_wrong_value (Ok settings) = Ok settings
 or_wrong_value (Err key) = Err (wrong_value (name_of key))
@@ -81,10 +85,12 @@ table_settings ms =
     if is_version_one (get_member (codes "version") ms) then or_wrong_value (settings_from ms keys standard_settings)
     else Err (wrong_value (codes "version"))
 
+-- the refusal of a key that isn't known, where there is one, else the settings of the table
 abbrev pub known_settings : Option (List ℕ) → Members → Result Settings Refusal
-known_settings (Some word) ms = Err (unknown_key word)
+known_settings (Some key_name) ms = Err (unknown_key key_name)
 known_settings None ms = table_settings ms
 
+-- the settings of a document, where there is one
 abbrev pub document_settings : Option Members → Result Settings Refusal
 document_settings None = Err no_document
 document_settings (Some ms) = known_settings (first_unknown ms) ms

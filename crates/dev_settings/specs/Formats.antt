@@ -5,4 +5,6 @@ use Rattle.dev_settings.specs.declared.format.Format.TheVariants.{Ppm, Tiff}
 
 -- the format that a word names
 abbrev pub format_of : List ℕ → Option Format
-format_of word = if bytes_eq word (codes "ppm") then Some Ppm else (if bytes_eq word (codes "tiff") then Some Tiff else None)
+format_of word =
+    if bytes_eq word (codes "ppm") then Some Ppm
+    else (if bytes_eq word (codes "tiff") then Some Tiff else None)

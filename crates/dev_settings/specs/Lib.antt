@@ -2,11 +2,10 @@ pub mod Answers
 pub mod Commands
 pub mod File
 pub mod Formats
+pub mod inner
 pub mod Keys
-pub mod LineLaws
 pub mod Lines
 pub mod Ranges
 pub mod Settings
-pub mod Shown
 pub mod Values
 pub mod Words

@@ -1,5 +1,6 @@
 -- The lines of a script, which are this project's own.
-use Rattle.std.specs.Prelude.{ℕ, ◌-◌, List, [], ◌∷◌, ◌++◌, if◌then◌else◌, ◌==◌, nat_eq, nat_lt, length, take, Option, Some, None}
+use Rattle.std.specs.Prelude.{ℕ, ◌-◌, List, [], ◌∷◌, ◌++◌, if◌then◌else◌, ◌==◌, nat_eq, nat_lt, length, take, Option}
+use Rattle.std.specs.Prelude.{Some, None}
 use Rattle.std.specs.List.{ends_with}
 
 -- the bytes of a script: the lines that a line feed (10) ends, each without it, and what follows the last line feed
@@ -23,7 +24,9 @@ with_byte byte (line ∷ lines) rest = record { complete = (byte ∷ line) ∷ l
 -- the lines of a script
 abbrev pub lines_of : List ℕ → Lines
 lines_of [] = unended []
-lines_of (byte ∷ bytes) = if byte == 10 then with_first [] (lines_of bytes) else with_byte byte (lines_of bytes).complete (lines_of bytes).rest
+lines_of (byte ∷ bytes) =
+    if byte == 10 then with_first [] (lines_of bytes)
+    else with_byte byte (lines_of bytes).complete (lines_of bytes).rest
 
 -- the line that the end of the script ends: what follows the last line feed, where it has at least one byte
 abbrev pub last_line : List ℕ → List (List ℕ)

@@ -19,10 +19,12 @@ IsGain gain = (1 ≤ gain) × (gain ≤ 1048576)
 abbrev pub IsEntry : ℤ → Type 0
 IsEntry entry = (neg_ℤ (pos 16777216) ≤ℤ entry) × (entry ≤ℤ pos 16777216)
 
+-- the entries of a matrix of the user's own are in their range
 abbrev pub MatrixInRange : MatrixChoice → Type 0
 MatrixInRange (Own entries) = All IsEntry entries
 MatrixInRange _ = ⊤
 
+-- the points of a curve by knots are knots
 abbrev pub CurveInRange : Curve → Type 0
 CurveInRange (Knots points) = IsTrue (are_knots points)
 CurveInRange _ = ⊤

@@ -1,5 +1,6 @@
 -- The values of settings, as a script line or a settings file gives them. All of it is this project's own.
-use Rattle.std.specs.Prelude.{ℕ, ℤ, pos, negsuc, ◌==◌, ◌&&◌, List, [], ◌∷◌, Option, Some, None, option_map, option_and_then, if◌then◌else◌, nat_lt, nat_le, length, codes, bytes_eq}
+use Rattle.std.specs.Prelude.{ℕ, ℤ, pos, negsuc, ◌==◌, ◌&&◌, List, [], ◌∷◌, Option, Some, None, option_map}
+use Rattle.std.specs.Prelude.{option_and_then, if◌then◌else◌, nat_lt, nat_le, length, codes, bytes_eq}
 use Rattle.malvar.specs.declared.Kind.{Kind}
 use Rattle.malvar.specs.declared.Kind.TheVariants.{Malvar, Bilinear}
 use Rattle.tone_table.specs.Knots.{knots_of}
@@ -41,7 +42,8 @@ level_of low (integers ns) = None
 -- how colours are found
 abbrev pub demosaic_of : Written → Option Kind
 demosaic_of (name text) =
-    if bytes_eq text (codes "malvar") then Some Malvar else (if bytes_eq text (codes "bilinear") then Some Bilinear else None)
+    if bytes_eq text (codes "malvar") then Some Malvar
+    else (if bytes_eq text (codes "bilinear") then Some Bilinear else None)
 demosaic_of (integer n) = None
 demosaic_of (integers ns) = None
 

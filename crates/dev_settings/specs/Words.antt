@@ -1,5 +1,6 @@
 -- The words of a script line and the numbers among them, which are this project's own.
-use Rattle.std.specs.Prelude.{ℕ, ℤ, pos, neg_ℤ, ◌^◌, List, [], ◌∷◌, Bool, Option, Some, None, ◌&&◌, if◌then◌else◌, ◌==◌, nat_lt, nat_le, length, filter, option_map}
+use Rattle.std.specs.Prelude.{ℕ, ℤ, pos, neg_ℤ, ◌^◌, List, [], ◌∷◌, Bool, Option, Some, None, ◌&&◌, if◌then◌else◌, ◌==◌}
+use Rattle.std.specs.Prelude.{nat_lt, nat_le, length, filter, option_map}
 use Rattle.std.specs.Char.{is_ascii_digit}
 use Rattle.std.specs.List.{list_all, slice_split}
 use Rattle.std.specs.Str.Parse.{digits_value}
@@ -24,4 +25,6 @@ unsigned_of word = option_map pos (number_of word)
 -- the integer that a word writes: a number, or a minus sign (45) and a number
 abbrev pub signed_of : List ℕ → Option ℤ
 signed_of [] = None
-signed_of (byte ∷ rest) = if byte == 45 then option_map (λ n. neg_ℤ (pos n)) (number_of rest) else unsigned_of (byte ∷ rest)
+signed_of (byte ∷ rest) =
+    if byte == 45 then option_map (λ n. neg_ℤ (pos n)) (number_of rest)
+    else unsigned_of (byte ∷ rest)

@@ -1,9 +1,10 @@
 //! The commands of a script, one to a line.
 
 ghost use Rattle.std.specs.Prelude.{◌≡◌, option_map, IfOk};
-ghost use Rattle.dev_settings.specs.Commands.{command_of, curve_value_of, integer_of, key_value_of, rectangle_of, region_of, set_of, stat_of, value_of};
+ghost use Rattle.dev_settings.specs.Commands.{command_of, curve_value_of, integer_of, key_value_of, rectangle_of};
+ghost use Rattle.dev_settings.specs.Commands.{region_of, set_of, stat_of, value_of};
 ghost use Rattle.dev_settings.specs.Ranges.{CommandInRange};
-ghost use Rattle.dev_settings.specs.Shown.{shown};
+ghost use Rattle.dev_settings.specs.inner.Shown.{shown};
 ghost use Rattle.dev_settings.specs.Values.{integers_of};
 
 use crate::format::Format;
@@ -12,14 +13,15 @@ use crate::key::{Key, key_named};
 use crate::settings::Change;
 use crate::word::{Words, number, signed, unsigned};
 use crate::written::{Written, change};
+use thiserror::Error;
 
 /// What a line asks for.
 #[derive(Clone, Copy, Debug, PartialEq, Eq)]
 pub enum Command {
     /// `set KEY VALUE`: the change of a setting.
     Set(Change),
-    /// `region X Y W H FORMAT`: the rectangle of `w` columns from `x` and `h` rows from `y`, as an
-    /// image. Neither `w` nor `h` is 0; whether the rectangle lies in the plane is for the caller.
+    /// `region X Y W H FORMAT`: the rectangle of `w` columns from `x` and `h` rows from `y`, as an image. Neither `w`
+    /// nor `h` is 0; whether the rectangle lies in the plane is for the caller.
     Region {
         x: u32,
         y: u32,
@@ -32,20 +34,28 @@ pub enum Command {
 }
 
 /// Why a line is refused: its first fault, in this order.
-#[derive(Clone, Copy, Debug, PartialEq, Eq)]
+#[derive(Clone, Copy, Debug, PartialEq, Eq, Error)]
 pub enum LineFault {
     /// There is no word, the first isn't that of a command, or there are too few or too many.
+    #[error("no command, or too few or too many words")]
     Word,
     /// The word after `set` isn't a key.
+    #[error("an unknown key")]
     Key,
     /// The words after the key aren't of its form and range.
+    #[error("a wrong value")]
     Value,
-    /// A number of the region is none, its format is none, or its width or height is 0.
+    /// A number or the format of the region isn't one, or its width or height is 0.
+    #[error("a wrong region")]
     Region,
 }
 
 impl Command {
     /// The command that the text of a line gives, its carriage return already taken off.
+    ///
+    /// # Errors
+    ///
+    /// The first of the faults of [`LineFault`] that the line has.
     pub fn read(line: &[u8]) -> Result<Self, LineFault>
         ensures command { result ≡ command_of line.now }
         ensures in_range { IfOk result CommandInRange }

@@ -3,12 +3,14 @@
 ghost use Rattle.std.specs.Prelude.{◌≡◌, IfErr, IfOk, IfSome, option_and_then, option_map};
 ghost use Rattle.toml.specs.Data.{as_integer, get_member};
 ghost use Rattle.toml.specs.View.{items_view, table_view, view};
-ghost use Rattle.dev_settings.specs.Answers.{Answers, IsRefusal, NamesLeastUnknown, ReadsDocument};
-ghost use Rattle.dev_settings.specs.File.{IsLeastUnknown, data_value_of, document_of, first_unknown, is_known, is_version_one, listed, settings_from, settings_of, unknown_key, wrong_value};
+ghost use Rattle.dev_settings.specs.Answers.{Answers, NamesLeastUnknown};
+ghost use Rattle.dev_settings.specs.File.{IsLeastUnknown, data_value_of, document_of, first_unknown, is_known};
+ghost use Rattle.dev_settings.specs.File.{is_version_one, listed, settings_from, settings_of, unknown_key, wrong_value};
 ghost use Rattle.dev_settings.specs.Keys.{keys};
 ghost use Rattle.dev_settings.specs.Ranges.{SettingsInRange};
 ghost use Rattle.dev_settings.specs.Settings.{standard_settings};
-ghost use Rattle.dev_settings.specs.Shown.{shown};
+ghost use Rattle.dev_settings.specs.inner.Answers.{IsRefusal, ReadsDocument};
+ghost use Rattle.dev_settings.specs.inner.Shown.{shown};
 ghost use Rattle.dev_settings.specs.Values.{change_of, integers_of};
 
 use crate::integers::Integers;
@@ -38,6 +40,12 @@ pub enum SettingsFault {
 
 impl Settings {
     /// The settings of a file's bytes.
+    ///
+    /// # Errors
+    ///
+    /// `NotToml` where the bytes are no TOML document; else `Key` with the least key, in the byte order of names, that
+    /// isn't known; else `Value` with `version` where it is there and isn't 1, or with the first key, in the order of
+    /// keys, whose value has a wrong form or is out of its range. `Memory` where memory ran out.
     pub fn from_toml(alloc: Global, bytes: &[u8]) -> Result<Settings, SettingsFault>
         ensures answer { Answers (settings_of bytes.now) result }
         ensures least { IfErr result (NamesLeastUnknown (document_of bytes.now)) }

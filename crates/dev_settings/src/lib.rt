@@ -1,4 +1,5 @@
-//! What a script says: its lines, their words, and the command of a line.
+//! What a script says: its lines, their words, and the command of a line; and what a settings file says. Both change
+//! settings.
 #![tactic(auto)]
 
 mod command;

@@ -1,6 +1,7 @@
 //! The lines of a script.
 
-ghost use Rattle.std.specs.Prelude.{◌≡◌, ◌==◌, ◌↔◌, ◌++◌, ◌∷◌, IsSome, IfSome, MatchOption, Contains, option_map, position};
+ghost use Rattle.std.specs.Prelude.{◌≡◌, ◌==◌, ◌↔◌, ◌++◌, ◌∷◌, IsSome, IfSome, MatchOption, Contains, option_map};
+ghost use Rattle.std.specs.Prelude.{position};
 ghost use Rattle.dev_settings.specs.Lines.{line_text_of, lines_of, unended, with_first};
 
 /// The longest line that is read, in bytes, with a carriage return at its end counted.
@@ -34,7 +35,7 @@ pub fn line_text(line: &[u8]) -> Option<&[u8]>
         return None;
     }
     match line {
-        [front @ .., b'\r'] => Some(front),
+        [text @ .., b'\r'] => Some(text),
         _ => Some(line),
     }
 }

@@ -2,8 +2,10 @@
 
 ghost use Rattle.std.specs.Prelude.{◌≡◌, ◌≤◌, length, pos, option_and_then};
 ghost use Rattle.tone_table.specs.Knots.{knots_of};
-ghost use Rattle.dev_settings.specs.Values.{change_of, demosaic_of, curve_named, entries_of, entry_of, exposure_of, gain_of, gains_of, level_of, matrix_named, matrix_of, points_of, tone_of, wb_of, within};
-ghost use Rattle.dev_settings.specs.Shown.{first_point_of, shown};
+ghost use Rattle.dev_settings.specs.Values.{change_of, demosaic_of, curve_named, entries_of, entry_of, exposure_of};
+ghost use Rattle.dev_settings.specs.Values.{gain_of, gains_of, level_of, matrix_named, matrix_of, points_of, tone_of};
+ghost use Rattle.dev_settings.specs.Values.{wb_of, within};
+ghost use Rattle.dev_settings.specs.inner.Shown.{first_point_of, shown};
 
 use crate::integers::Integers;
 use crate::key::Key;
@@ -14,7 +16,7 @@ use tone_table::{Curve, Knots, MAX_KNOTS};
 /// A value as it is written.
 #[derive(Drop)]
 pub(crate) enum Written<'a> {
-    /// A name, such as `frame`, or what is no value at all.
+    /// A name, such as `frame`, or a text that is no value at all.
     Name(&'a [u8]),
     Integer(i64),
     List(Integers),

@@ -1,3 +1,3 @@
+pub mod ChangeLemmas
 pub mod ListLemmas
 pub mod PlanLemmas
-pub mod ChangeLemmas

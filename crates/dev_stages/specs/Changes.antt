@@ -1,5 +1,6 @@
 -- Which stage a change of settings touches: this project's own.
-use Rattle.std.specs.Prelude.{◌≡◌, ℕ, ◌+◌, ◌-◌, ◌≤◌, if◌then◌else◌, ℤ, pos, int_lt, List, length, slice_get, slice_set, Option, None, Some, Result, Ok, Err}
+use Rattle.std.specs.Prelude.{◌≡◌, ℕ, ◌+◌, ◌-◌, ◌≤◌, if◌then◌else◌, ℤ, pos, int_lt, List, length, slice_get, slice_set}
+use Rattle.std.specs.Prelude.{Option, None, Some, Result, Ok, Err}
 use Rattle.plane_view.specs.declared.Shape.{Shape}
 use Rattle.dng_tags.specs.declared.record.Frame.{Frame}
 use Rattle.dev_settings.specs.Settings.{changed}
@@ -8,7 +9,8 @@ use Rattle.dev_settings.specs.declared.settings.Change.TheVariants as change
 use Rattle.dev_settings.specs.declared.settings.Settings.{Settings}
 use Rattle.dev_stages.specs.Listed.{listed}
 use Rattle.dev_stages.specs.Members.{shaped_of, takes_of}
-use Rattle.dev_stages.specs.Plans.{balance_stage, chosen_matrix, demosaic_stage, linear_stage, planned, span_under, tone_stage}
+use Rattle.dev_stages.specs.Plans.{balance_stage, chosen_matrix, demosaic_stage, linear_stage, planned, span_under}
+use Rattle.dev_stages.specs.Plans.{tone_stage}
 use Rattle.dev_stages.specs.declared.fault.PlanFault.{PlanFault}
 use Rattle.dev_stages.specs.declared.fault.PlanFault.TheVariants as fault
 use Rattle.dev_stages.specs.declared.stage.DevStage.{DevStage}
@@ -65,7 +67,8 @@ pub record AreLike (old new : DevStage) : Type 0 where
   pub shapes : (input : Shape) → shaped_of new input ≡ shaped_of old input
 
 -- stages that become those of other settings where the one of a number, counted from 1, becomes another one
-pub record Becomes (frame : Frame) (after : Settings) (stages : List DevStage) (number : ℕ) (stage : DevStage) : Type 0 where
+pub record Becomes (frame : Frame) (after : Settings) (stages : List DevStage)
+    (number : ℕ) (stage : DevStage) : Type 0 where
   pub low : 1 ≤ number
   pub high : number ≤ length stages
   pub all : planned frame after ≡ Ok (replaced number stage stages)

@@ -1,4 +1,4 @@
--- Laws of the stages of any kind.
+-- Laws of the stages of any kind: what `impl Stage` of `DevStage` cites, by the laws of each kind.
 use Rattle.std.proofs.Common.{◌≡◌, true}
 use Rattle.plane_view.specs.declared.Rect.{Rect}
 use Rattle.plane_view.specs.declared.Shape.{Shape}
@@ -29,7 +29,8 @@ use Rattle.colour_matrix.specs.Matrices.{matrixed_at}
 use Rattle.tone_table.specs.Laws.{entry_rests, same_tones}
 use Rattle.tone_table.specs.Tones.{entry_at}
 use Rattle.dev_stages.specs.declared.stage.DevStage.{DevStage}
-use Rattle.dev_stages.specs.declared.stage.DevStage.TheVariants.{Balance, Crop, Demosaic, FixConstant, FixList, Linearise, Map, Matrix, Tone}
+use Rattle.dev_stages.specs.declared.stage.DevStage.TheVariants.{Balance, Crop, Demosaic, FixConstant, FixList}
+use Rattle.dev_stages.specs.declared.stage.DevStage.TheVariants.{Linearise, Map, Matrix, Tone}
 use Rattle.dev_stages.specs.contracts.stage.DevStagePartialEq.TheImpl.{ghosts}
 use Rattle.dev_stages.specs.Members.{apply_of, needed_of, shaped_of, takes_of}
 
@@ -44,18 +45,23 @@ shapes_of (Balance s) input is takes = is
 shapes_of (Matrix s) input is takes = is
 shapes_of (Tone s) input is takes = is
 
-pub planes_of : (s : DevStage) (input : Shape) (P : Plane) → takes_of s input → IsPlane P input → IsPlane (apply_of s P) (shaped_of s input)
-planes_of (FixConstant s) input P takes is = planes_by (λ t. t) (λ t at. mended_at (equals s.constant at) s.phase t.rows t.cols at) input P is
-planes_of (FixList s) input P takes is = planes_by (λ t. t) (λ t at. mended_at (is_listed s.points s.rects at) s.phase t.rows t.cols at) input P is
+pub planes_of : (s : DevStage) (input : Shape) (P : Plane) → takes_of s input → IsPlane P input
+    → IsPlane (apply_of s P) (shaped_of s input)
+planes_of (FixConstant s) input P takes is =
+    planes_by (λ t. t) (λ t at. mended_at (equals s.constant at) s.phase t.rows t.cols at) input P is
+planes_of (FixList s) input P takes is =
+    planes_by (λ t. t) (λ t at. mended_at (is_listed s.points s.rects at) s.phase t.rows t.cols at) input P is
 planes_of (Map s) input P takes is = planes_by (λ t. t) (λ t at. mapped_at s at) input P is
 planes_of (Crop s) input P takes is = planes_by (cropped_shape s.rect) (λ whole at. cropped_at s.rect at) input P is
 planes_of (Linearise s) input P takes is = planes_by (λ t. t) (λ t at. linear_of s at) input P is
-planes_of (Demosaic s) input P takes is = planes_by coloured (λ t at. demosaiced_at (table_of s.kind) (cfa_of s) t.rows t.cols at) input P is
+planes_of (Demosaic s) input P takes is =
+    planes_by coloured (λ t at. demosaiced_at (table_of s.kind) (cfa_of s) t.rows t.cols at) input P is
 planes_of (Balance s) input P takes is = planes_by (λ t. t) (λ t at. balanced_at s at) input P is
 planes_of (Matrix s) input P takes is = planes_by (λ t. t) (λ t at. matrixed_at s at) input P is
 planes_of (Tone s) input P takes is = planes_by (λ t. t) (λ t at. entry_at s at) input P is
 
-pub parts_of : (s : DevStage) (input : Shape) (rect : Rect) → takes_of s input → IsPart rect (shaped_of s input) → IsPart (needed_of s input rect) input
+pub parts_of : (s : DevStage) (input : Shape) (rect : Rect) → takes_of s input → IsPart rect (shaped_of s input)
+    → IsPart (needed_of s input rect) input
 parts_of (FixConstant s) input rect takes part = mend_needs input rect part
 parts_of (FixList s) input rect takes part = mend_needs input rect part
 parts_of (Map s) input rect takes part = part
@@ -66,25 +72,50 @@ parts_of (Balance s) input rect takes part = part
 parts_of (Matrix s) input rect takes part = part
 parts_of (Tone s) input rect takes part = part
 
-pub local_of : (s : DevStage) (input : Shape) (rect : Rect) → takes_of s input → IsPart rect (shaped_of s input) → IsLocal (apply_of s) input (needed_of s input rect) rect
-local_of (FixConstant s) input rect takes part = local_by (λ t. t) (λ t at. mended_at (equals s.constant at) s.phase t.rows t.cols at) input (grown rect 2 (whole_rect input.rows input.cols)) rect part (mend_rests (equals s.constant) (equals_rests s.constant) s.phase input rect takes part)
-local_of (FixList s) input rect takes part = local_by (λ t. t) (λ t at. mended_at (is_listed s.points s.rects at) s.phase t.rows t.cols at) input (grown rect 2 (whole_rect input.rows input.cols)) rect part (mend_rests (is_listed s.points s.rects) (listed_rests s.points s.rects) s.phase input rect takes part)
-local_of (Map s) input rect takes part = local_by (λ t. t) (λ t at. mapped_at s at) input rect rect part (map_rests s input rect)
-local_of (Crop s) input rect takes part = local_by (cropped_shape s.rect) (λ whole at. cropped_at s.rect at) input (shifted rect s.rect.top s.rect.left) rect part (crop_rests s.rect input rect)
-local_of (Linearise s) input rect takes part = local_by (λ t. t) (λ t at. linear_of s at) input rect rect part (linear_rests s input.planes rect)
-local_of (Demosaic s) input rect takes part = local_by coloured (λ t at. demosaiced_at (table_of s.kind) (cfa_of s) t.rows t.cols at) input (grown rect (reach_of s.kind) (whole_rect input.rows input.cols)) rect part (reads_near s.kind (cfa_of s) input rect takes part)
-local_of (Balance s) input rect takes part = local_by (λ t. t) (λ t at. balanced_at s at) input rect rect part (balanced_rests s input.planes rect)
-local_of (Matrix s) input rect takes part = local_by (λ t. t) (λ t at. matrixed_at s at) input rect rect part (matrixed_rests s input.planes rect takes)
-local_of (Tone s) input rect takes part = local_by (λ t. t) (λ t at. entry_at s at) input rect rect part (entry_rests s input.planes rect)
+pub local_of : (s : DevStage) (input : Shape) (rect : Rect) → takes_of s input → IsPart rect (shaped_of s input)
+    → IsLocal (apply_of s) input (needed_of s input rect) rect
+local_of (FixConstant s) input rect takes part =
+    local_by (λ t. t) (λ t at. mended_at (equals s.constant at) s.phase t.rows t.cols at) input
+    (grown rect 2 (whole_rect input.rows input.cols)) rect part
+    (mend_rests (equals s.constant) (equals_rests s.constant) s.phase input rect takes part)
+local_of (FixList s) input rect takes part =
+    local_by (λ t. t) (λ t at. mended_at (is_listed s.points s.rects at) s.phase t.rows t.cols at) input
+    (grown rect 2 (whole_rect input.rows input.cols)) rect part
+    (mend_rests (is_listed s.points s.rects) (listed_rests s.points s.rects) s.phase input rect takes part)
+local_of (Map s) input rect takes part = local_by (λ t. t) (λ t at. mapped_at s at) input rect rect part
+    (map_rests s input rect)
+local_of (Crop s) input rect takes part = local_by (cropped_shape s.rect) (λ whole at. cropped_at s.rect at) input
+    (shifted rect s.rect.top s.rect.left) rect part (crop_rests s.rect input rect)
+local_of (Linearise s) input rect takes part = local_by (λ t. t) (λ t at. linear_of s at) input rect rect part
+    (linear_rests s input.planes rect)
+local_of (Demosaic s) input rect takes part =
+    local_by coloured (λ t at. demosaiced_at (table_of s.kind) (cfa_of s) t.rows t.cols at) input
+    (grown rect (reach_of s.kind) (whole_rect input.rows input.cols)) rect part
+    (reads_near s.kind (cfa_of s) input rect takes part)
+local_of (Balance s) input rect takes part = local_by (λ t. t) (λ t at. balanced_at s at) input rect rect part
+    (balanced_rests s input.planes rect)
+local_of (Matrix s) input rect takes part = local_by (λ t. t) (λ t at. matrixed_at s at) input rect rect part
+    (matrixed_rests s input.planes rect takes)
+local_of (Tone s) input rect takes part = local_by (λ t. t) (λ t at. entry_at s at) input rect rect part
+    (entry_rests s input.planes rect)
 
 pub alike_of : (s t : DevStage) → ghosts.eq s t ≡ true → AreAlike takes_of shaped_of needed_of apply_of s t
-alike_of (FixConstant s) (FixConstant t) h = let a = constant_alike s t h in record { inputs = a.inputs; shapes = a.shapes; needs = a.needs; meanings = a.meanings }
-alike_of (FixList s) (FixList t) h = let a = list_alike s t h in record { inputs = a.inputs; shapes = a.shapes; needs = a.needs; meanings = a.meanings }
-alike_of (Map s) (Map t) h = let a = map_alike s t h in record { inputs = a.inputs; shapes = a.shapes; needs = a.needs; meanings = a.meanings }
-alike_of (Crop s) (Crop t) h = let a = crop_alike s t h in record { inputs = a.inputs; shapes = a.shapes; needs = a.needs; meanings = a.meanings }
-alike_of (Linearise s) (Linearise t) h = let a = same_stages s t h in record { inputs = a.inputs; shapes = a.shapes; needs = a.needs; meanings = a.meanings }
-alike_of (Demosaic s) (Demosaic t) h = let a = same_mosaics s t h in record { inputs = a.inputs; shapes = a.shapes; needs = a.needs; meanings = a.meanings }
-alike_of (Balance s) (Balance t) h = let a = same_balances s t h in record { inputs = a.inputs; shapes = a.shapes; needs = a.needs; meanings = a.meanings }
-alike_of (Matrix s) (Matrix t) h = let a = same_matrices s t h in record { inputs = a.inputs; shapes = a.shapes; needs = a.needs; meanings = a.meanings }
-alike_of (Tone s) (Tone t) h = let a = same_tones s t h in record { inputs = a.inputs; shapes = a.shapes; needs = a.needs; meanings = a.meanings }
+alike_of (FixConstant s) (FixConstant t) h = let a = constant_alike s t h in
+    record { inputs = a.inputs; shapes = a.shapes; needs = a.needs; meanings = a.meanings }
+alike_of (FixList s) (FixList t) h = let a = list_alike s t h in
+    record { inputs = a.inputs; shapes = a.shapes; needs = a.needs; meanings = a.meanings }
+alike_of (Map s) (Map t) h = let a = map_alike s t h in
+    record { inputs = a.inputs; shapes = a.shapes; needs = a.needs; meanings = a.meanings }
+alike_of (Crop s) (Crop t) h = let a = crop_alike s t h in
+    record { inputs = a.inputs; shapes = a.shapes; needs = a.needs; meanings = a.meanings }
+alike_of (Linearise s) (Linearise t) h = let a = same_stages s t h in
+    record { inputs = a.inputs; shapes = a.shapes; needs = a.needs; meanings = a.meanings }
+alike_of (Demosaic s) (Demosaic t) h = let a = same_mosaics s t h in
+    record { inputs = a.inputs; shapes = a.shapes; needs = a.needs; meanings = a.meanings }
+alike_of (Balance s) (Balance t) h = let a = same_balances s t h in
+    record { inputs = a.inputs; shapes = a.shapes; needs = a.needs; meanings = a.meanings }
+alike_of (Matrix s) (Matrix t) h = let a = same_matrices s t h in
+    record { inputs = a.inputs; shapes = a.shapes; needs = a.needs; meanings = a.meanings }
+alike_of (Tone s) (Tone t) h = let a = same_tones s t h in
+    record { inputs = a.inputs; shapes = a.shapes; needs = a.needs; meanings = a.meanings }
 alike_of _ _ h = absurd (cc)

@@ -1,6 +1,7 @@
-pub mod Members
+pub mod Changes
+pub mod inner
 pub mod Laws
 pub mod Listed
+pub mod Members
 pub mod Plannable
 pub mod Plans
-pub mod Changes

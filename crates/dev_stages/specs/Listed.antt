@@ -16,7 +16,14 @@ opcode_stage (FixList phase points rects) =
     Some (stage.FixList (record { phase = phase; points = points; rects = rects }))
 opcode_stage (Trim rect) = Some (stage.Crop (record { rect = rect }))
 opcode_stage (Map rect plane planes row_pitch col_pitch table) =
-    Some (stage.Map (record { rect = rect; plane = plane; planes = planes; row_pitch = row_pitch; col_pitch = col_pitch; table = table }))
+    Some (stage.Map (record {
+      rect = rect;
+      plane = plane;
+      planes = planes;
+      row_pitch = row_pitch;
+      col_pitch = col_pitch;
+      table = table;
+    }))
 opcode_stage (Skipped id) = None
 
 -- the stages of a list, one opcode after the other

@@ -1,4 +1,5 @@
--- What each kind of stage is.
+-- What each kind of stage makes, takes and needs: for each kind the definition of the crate that it stands in. Which
+-- kinds there are is this project's own.
 use Rattle.std.specs.Prelude.{⊤, ◌≡◌}
 use Rattle.plane_view.specs.declared.Rect.{Rect}
 use Rattle.plane_view.specs.declared.Shape.{Shape}
@@ -15,7 +16,8 @@ use Rattle.colour_matrix.specs.Balances.{balanced}
 use Rattle.colour_matrix.specs.Matrices.{matrixed}
 use Rattle.tone_table.specs.Tones.{toned}
 use Rattle.dev_stages.specs.declared.stage.DevStage.{DevStage}
-use Rattle.dev_stages.specs.declared.stage.DevStage.TheVariants.{Balance, Crop, Demosaic, FixConstant, FixList, Linearise, Map, Matrix, Tone}
+use Rattle.dev_stages.specs.declared.stage.DevStage.TheVariants.{Balance, Crop, Demosaic, FixConstant, FixList}
+use Rattle.dev_stages.specs.declared.stage.DevStage.TheVariants.{Linearise, Map, Matrix, Tone}
 
 -- the plane that a stage makes of a plane
 abbrev pub apply_of : DevStage → Plane → Plane

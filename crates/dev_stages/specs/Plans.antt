@@ -1,6 +1,7 @@
 -- The stages of a development in their order (DNG 1.6, chapters 5 and 6, for linear values and colours). The order, the
 -- settings and the refusals are this project's own.
-use Rattle.std.specs.Prelude.{ℕ, ◌==◌, ◌++◌, if◌then◌else◌, ℤ, pos, int_lt, List, [], ◌∷◌, map, slice_index, Option, None, Some, option_map, unwrap_or, Result, Ok, Err}
+use Rattle.std.specs.Prelude.{ℕ, ◌==◌, ◌++◌, if◌then◌else◌, ℤ, pos, int_lt, List, [], ◌∷◌, map, slice_index, Option}
+use Rattle.std.specs.Prelude.{None, Some, option_map, unwrap_or, Result, Ok, Err}
 use Rattle.std.specs.List.{range_with_len}
 use Rattle.std.specs.Option.{option_map_or}
 use Rattle.plane_view.specs.Rectangles.{height, width}
@@ -12,7 +13,8 @@ use Rattle.linearise.specs.Parameters.{parameters}
 use Rattle.linearise.specs.Settings.{under}
 use Rattle.malvar.specs.declared.Kind.{Kind}
 use Rattle.malvar.specs.declared.pattern.Pattern.{Pattern}
-use Rattle.malvar.specs.declared.pattern.Pattern.TheVariants.{RedGreenGreenBlue, BlueGreenGreenRed, GreenRedBlueGreen, GreenBlueRedGreen}
+use Rattle.malvar.specs.declared.pattern.Pattern.TheVariants.{RedGreenGreenBlue, BlueGreenGreenRed, GreenRedBlueGreen}
+use Rattle.malvar.specs.declared.pattern.Pattern.TheVariants.{GreenBlueRedGreen}
 use Rattle.malvar.specs.declared.stage.Demosaic.{Demosaic as AnyDemosaic}
 use Rattle.colour_matrix.specs.Matrices.{camera_matrix, forward_matrix}
 use Rattle.tone_table.specs.declared.Curve.{Curve}
@@ -47,7 +49,7 @@ abbrev pub auto_matrix : Colour → List ℤ
 auto_matrix colour =
     option_map_or forward_matrix colour.forward2 (option_map_or forward_matrix colour.forward1 camera_matrix)
 
--- the matrix of a choice; none where the frame hasn't the one that it names
+-- the matrix of a choice; none where the frame doesn't have the one that it names
 abbrev pub chosen_matrix : Colour → MatrixChoice → Option (List ℤ)
 chosen_matrix colour choice.Auto = Some (auto_matrix colour)
 chosen_matrix colour choice.Camera = Some camera_matrix
@@ -77,8 +79,8 @@ balance_stage frame settings =
 abbrev pub tone_stage : Settings → DevStage
 tone_stage settings = Tone (curve_table settings.tone)
 
--- the stages of a frame in their order: list 1, the active area, linear values, list 2, demosaicing, list 3, the default
--- crop, balance, matrix, tone
+-- the stages of a frame in their order: list 1, the active area, linear values, list 2, demosaicing, list 3, the
+-- default crop, balance, matrix, tone
 unfoldable pub in_order : Frame → (linear demosaic balance matrix tone : DevStage) → List DevStage
 in_order frame linear demosaic balance matrix tone =
     listed frame.list1
@@ -96,7 +98,8 @@ in_order frame linear demosaic balance matrix tone =
 -- the stages of a frame by settings and a matrix
 unfoldable pub stages_with : Frame → Settings → List ℤ → List DevStage
 stages_with frame settings matrix =
-    in_order frame (linear_stage frame settings) (demosaic_stage frame settings) (balance_stage frame settings) (Matrix matrix) (tone_stage settings)
+    in_order frame (linear_stage frame settings) (demosaic_stage frame settings) (balance_stage frame settings)
+    (Matrix matrix) (tone_stage settings)
 
 -- how far white is above the greatest black under settings
 abbrev pub span_under : Frame → Settings → ℤ

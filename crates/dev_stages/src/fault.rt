@@ -1,18 +1,19 @@
 //! Why settings give a frame no stages.
 
+use linearise::LineariseFault;
 use std::alloc::AllocError;
 use thiserror::Error;
 
 /// Why settings give a frame no stages.
 #[derive(Clone, Copy, Debug, PartialEq, Eq, Error)]
 pub enum PlanFault {
-    /// They name a forward matrix that the frame hasn't.
-    #[error("the frame hasn't the forward matrix that is asked for")]
+    /// They name a forward matrix that the frame doesn't have.
+    #[error("the frame doesn't have the forward matrix that is asked for")]
     Matrix,
     /// Under them the white level isn't above the greatest black level.
     #[error("the white level isn't above the black level")]
     Levels,
-    /// There was no memory.
+    /// Memory ran out.
     #[error("out of memory")]
     Memory,
 }
@@ -25,5 +26,19 @@ impl From<AllocError> for PlanFault {
 
     fn from(_: AllocError) -> PlanFault {
         PlanFault::Memory
+    }
+}
+
+impl From<LineariseFault> for PlanFault {
+    ghost use Rattle.std.specs.Prelude.{◌≡◌};
+    ghost use Rattle.dev_stages.specs.inner.Faults.{linear_fault};
+
+    ghost from_gives = { λ linear fault. fault ≡ linear_fault linear };
+
+    fn from(fault: LineariseFault) -> PlanFault {
+        match fault {
+            LineariseFault::Levels => PlanFault::Levels,
+            LineariseFault::Memory => PlanFault::Memory,
+        }
     }
 }

@@ -13,7 +13,7 @@ use opcode_stages::{Crop, FixConstant, FixList, MapTable};
 use plane_view::Rect;
 use std::alloc::{AllocError, Global};
 
-/// The stage of an opcode, or `None` of one that is passed over.
+/// The stage of an opcode, or `None` for one that is passed over.
 fn opcode_stage(alloc: Global, opcode: &Opcode) -> Result<Option<DevStage>, AllocError>
     requires { CanRun opcode.now }
     ensures { IfOk result (λ stage. stage ≡ opcode_stage opcode.now) }

@@ -33,7 +33,7 @@ fn forward_matrix(forward: &Option<[i32; 9]>) -> Option<Matrix>
     }
 }
 
-/// The matrix of a choice, or `None` where the frame hasn't the one that it names.
+/// The matrix of a choice, or `None` where the frame doesn't have the one that it names.
 pub(crate) fn chosen_matrix(colour: &Colour, choice: &MatrixChoice) -> Option<Matrix>
     requires colour { AreColours colour.now }
     requires choice { MatrixInRange choice.now }

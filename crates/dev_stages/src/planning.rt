@@ -15,14 +15,14 @@ use crate::{DevStage, PlanFault};
 use colour_matrix::Balance;
 use dev_settings::{Change, Settings};
 use dng_tags::Frame;
-use linearise::{Linearise, LineariseFault};
+use linearise::Linearise;
 use malvar::Demosaic;
 use opcode_stages::Crop;
 use std::alloc::{AllocError, Global};
 use tone_table::Tone;
 
 /// How the raw values of a frame become linear.
-#[tactic(auto, using(crate::proofs::PlanLemmas::linear_so, crate::proofs::PlanLemmas::linear_low, crate::proofs::PlanLemmas::small_area))]
+#[tactic(auto, using(crate::proofs::PlanLemmas::linear_so, crate::proofs::PlanLemmas::small_area))]
 fn linear_stage(alloc: Global, frame: &Frame, settings: &Settings) -> Result<DevStage, PlanFault>
     requires { IsPlannable frame.now }
     ensures stage { IfOk result (λ stage. linear_or frame.now settings.now ≡ Ok stage) }
@@ -34,12 +34,8 @@ fn linear_stage(alloc: Global, frame: &Frame, settings: &Settings) -> Result<Dev
         frame.active,
         settings.black,
         settings.white,
-    );
-    match linear {
-        Ok(linear) => Ok(DevStage::Linearise(linear)),
-        Err(LineariseFault::Levels) => Err(PlanFault::Levels),
-        Err(LineariseFault::Memory) => Err(PlanFault::Memory),
-    }
+    )?;
+    Ok(DevStage::Linearise(linear))
 }
 
 /// How the colours that a frame's pixels lack are found. The trims of list 2 move the pattern.
@@ -84,7 +80,8 @@ fn tone_stage(alloc: Global, settings: &Settings) -> Result<DevStage, AllocError
 /// The stages up to list 2.
 fn raw_stages(alloc: Global, frame: &Frame, linear: DevStage) -> Result<Vec<DevStage>, AllocError>
     requires { IsPlannable frame.now }
-    ensures { IfOk result (λ stages. stages.items ≡ listed frame.now.list1 ++ (DevStage.Crop (record { rect = frame.now.active }) ∷ linear ∷ listed frame.now.list2)) }
+    ensures { IfOk result (λ stages. stages.items ≡ listed frame.now.list1
+        ++ (DevStage.Crop (record { rect = frame.now.active }) ∷ linear ∷ listed frame.now.list2)) }
 {
     let mut stages = Vec::new(alloc);
     push_listed(alloc, frame.list1.as_slice(), &mut stages)?;
@@ -102,7 +99,9 @@ fn push_coloured(
     stages: &mut Vec<DevStage>,
 ) -> Result<(), AllocError>
     requires { IsPlannable frame.now }
-    ensures { IfOk result (λ _. stages.new.items ≡ stages.old.items ++ (demosaic_stage frame.now settings.now ∷ (listed frame.now.list3 ++ (DevStage.Crop (record { rect = frame.now.crop }) ∷ [])))) }
+    ensures { IfOk result (λ _. stages.new.items ≡ stages.old.items
+        ++ (demosaic_stage frame.now settings.now ∷ (listed frame.now.list3
+        ++ (DevStage.Crop (record { rect = frame.now.crop }) ∷ [])))) }
 {
     stages.push(demosaic_stage(frame, settings))?;
     push_listed(alloc, frame.list3.as_slice(), stages)?;
@@ -120,7 +119,8 @@ fn push_last(
 ) -> Result<(), AllocError>
     requires frame { IsPlannable frame.now }
     requires settings { SettingsInRange settings.now }
-    ensures { IfOk result (λ _. stages.new.items ≡ stages.old.items ++ (balance_stage frame.now settings.now ∷ matrix ∷ tone_stage settings.now ∷ [])) }
+    ensures { IfOk result (λ _. stages.new.items ≡ stages.old.items
+        ++ (balance_stage frame.now settings.now ∷ matrix ∷ tone_stage settings.now ∷ [])) }
 {
     stages.push(balance_stage(frame, settings))?;
     stages.push(matrix)?;
@@ -133,8 +133,8 @@ fn push_last(
 ///
 /// # Errors
 ///
-/// `Matrix` exactly where the settings name a forward matrix that the frame hasn't; else `Levels` exactly where the white
-/// level isn't above the greatest black level under them; `Memory` where there was none.
+/// `Matrix` exactly where the settings name a forward matrix that the frame doesn't have; else `Levels` exactly where
+/// the white level isn't above the greatest black level under them; `Memory` where there was none.
 pub fn plan(alloc: Global, frame: &Frame, settings: &Settings) -> Result<Vec<DevStage>, PlanFault>
     requires frame { IsPlannable frame.now }
     requires settings { SettingsInRange settings.now }
@@ -177,28 +177,26 @@ fn touched(
     requires frame { IsPlannable frame.now }
     requires settings { SettingsInRange settings.now }
     ensures stage { IfOk result (λ stage. touched frame.now settings.now change.now ≡ Ok stage) }
-    ensures fault { IfErr result (λ fault. fault ≢ PlanFault.Memory → touched frame.now settings.now change.now ≡ Err fault) }
+    ensures fault { IfErr result (λ fault. fault ≢ PlanFault.Memory
+        → touched frame.now settings.now change.now ≡ Err fault) }
 {
     match change {
         Change::Black(_) | Change::White(_) => linear_stage(alloc, frame, settings),
         Change::Demosaic(_) => Ok(demosaic_stage(frame, settings)),
         Change::Wb(_) | Change::Exposure(_) => Ok(balance_stage(frame, settings)),
         Change::Matrix(_) => matrix_stage(frame, settings),
-        Change::Tone(_) => match tone_stage(alloc, settings) {
-            Ok(stage) => Ok(stage),
-            Err(_) => Err(PlanFault::Memory),
-        },
+        Change::Tone(_) => Ok(tone_stage(alloc, settings)?),
     }
 }
 
-/// The one stage that a change touches, with its number, counted from 1 among the stages that `plan` gives, under settings
-/// that already have the change. All other stages stay as they were before it.
+/// The one stage that a change touches, with its number, counted from 1 among the stages that `plan` gives, under
+/// settings that already have the change. All other stages stay as they were before it.
 ///
 /// # Errors
 ///
-/// For a change of the matrix, `Matrix` exactly where it names a forward matrix that the frame hasn't; for one of black or
-/// white, `Levels` exactly where the white level isn't above the greatest black level under the settings; `Memory` where
-/// there was none.
+/// For a change of the matrix, `Matrix` exactly where it names a forward matrix that the frame doesn't have; for one of
+/// black or white, `Levels` exactly where the white level isn't above the greatest black level under the settings;
+/// `Memory` where there was none.
 pub fn stage_of(
     alloc: Global,
     frame: &Frame,
@@ -210,8 +208,10 @@ pub fn stage_of(
     ensures number { IfOk result (λ made. made.0 ≡ number_of frame.now change.now) }
     ensures stage { IfOk result (λ made. touched frame.now settings.now change.now ≡ Ok made.1) }
     ensures replaces { IfOk result (λ made. Replaces frame.now change.now settings.now made.0 made.1) }
-    ensures fault { IfErr result (λ fault. fault ≢ PlanFault.Memory → touched frame.now settings.now change.now ≡ Err fault) }
-    ensures refuses { IfErr result (λ fault. fault ≢ PlanFault.Memory → Refuses frame.now change.now settings.now fault) }
+    ensures fault { IfErr result (λ fault. fault ≢ PlanFault.Memory
+        → touched frame.now settings.now change.now ≡ Err fault) }
+    ensures refuses { IfErr result (λ fault. fault ≢ PlanFault.Memory
+        → Refuses frame.now change.now settings.now fault) }
 {
     let stage = touched(alloc, frame, settings, change)?;
     Ok((number_of(frame, change), stage))

@@ -1,20 +1,21 @@
 -- A script that is read piece by piece: the lines that were answered so far, in a piece and in the whole.
-use Rattle.std.proofs.Common.{◌≡◌, ℕ, nat_eq, true, false, List, [], ◌∷◌, ◌++◌, length, Result, Ok, Err, refl, sym, ◌∙◌, ap, subst, append_assoc, length-take, arith}
+use Rattle.std.proofs.Common.{◌≡◌, ℕ, nat_eq, true, false, List, [], ◌∷◌, ◌++◌, length, Result, Ok, Err, refl, sym, ◌∙◌}
+use Rattle.std.proofs.Common.{ap, subst, append_assoc, length-take, arith}
 use Rattle.std.specs.Prelude.{OnOk}
 use Rattle.std.proofs.lemmas.Bool.{eqb-true}
 use Rattle.std.proofs.lemmas.List.{append-nil, nil_from_length}
-use Rattle.raw_io.specs.Outside.{Appends, IsFrontOf}
+use Rattle.raw_io.specs.Outside.{Appends, IsPrefixOf}
 use Rattle.dev_settings.specs.Lines.{Lines, last_line, lines_of, unended, with_first}
 use Rattle.developer.specs.Answered.{Sends}
 use Rattle.developer.specs.Answers.{Answer}
-use Rattle.developer.specs.Reading.{IsAnswered, kept_of}
+use Rattle.developer.specs.inner.Reading.{IsAnswered, kept_of}
 use Rattle.developer.specs.Replies.{answer_of}
 use Rattle.developer.specs.Sessions.{InForce}
 use Rattle.developer.specs.Transcript.{answers_to}
-use Rattle.developer.specs.Writes.{ByCause}
+use Rattle.developer.specs.Answered.{ByCause}
 use Rattle.developer.specs.declared.writing.Cause.{Cause}
 use Rattle.developer.specs.declared.writing.Cause.TheVariants as causes
-use Rattle.developer.proofs.Answering.{answers_front, answers_then}
+use Rattle.developer.proofs.Answering.{answers_prefix, answers_then}
 use Rattle.developer.proofs.Outsides.{appends_nothing, appends_then, prefix_whole}
 use Rattle.developer.proofs.ScriptLines.{answer_of_kept, line_after, rest_after}
 
@@ -30,25 +31,33 @@ kept_none line kept is none =
 
 -- of a line that has a byte one is kept
 kept_some : (line kept : List ℕ) → kept ≡ kept_of line → nat_eq (length kept) 0 ≡ false → last_line line ≡ line ∷ []
-kept_some [] kept is some = let none : nat_eq (length kept) 0 ≡ true = ap (λ (bytes : List ℕ). nat_eq (length bytes) 0) is in absurd (cc)
+kept_some [] kept is some = let none : nat_eq (length kept) 0 ≡ true = ap (λ (bytes : List ℕ). nat_eq (length bytes) 0)
+    is in absurd (cc)
 kept_some (byte ∷ bytes) kept is some = refl
 
 module _ {S : Type 0} (stands_for : S → List ℕ → Type 0) (faults : S → ℕ) where
   -- the same answers
-  sends_same : {T : Type 0} (old new : S) (bytes others : List ℕ) (result : Result T Cause) → bytes ≡ others → Sends stands_for faults old new bytes result → Sends stands_for faults old new others result
+  sends_same : {T : Type 0} (old new : S) (bytes others : List ℕ) (result : Result T Cause) → bytes ≡ others
+      → Sends stands_for faults old new bytes result → Sends stands_for faults old new others result
   sends_same old new bytes others result e s = subst (λ (b : List ℕ). Sends stands_for faults old new b result) e s
 
   -- one line that was answered
-  pub answered_line : {T : Type 0} (old new : S) (state after : InForce) (line : List ℕ) (result : Result T Cause) → Sends stands_for faults old new (answer_of state line).bytes result → OnOk result (after ≡ (answer_of state line).state)
+  pub answered_line : {T : Type 0} (old new : S) (state after : InForce) (line : List ℕ) (result : Result T Cause)
+      → Sends stands_for faults old new (answer_of state line).bytes result
+      → OnOk result (after ≡ (answer_of state line).state)
       → IsAnswered stands_for faults old new state (line ∷ []) after result
   answered_line old new state after line result sends reached = record {
-    sends = sends_same old new (answer_of state line).bytes ((answer_of state line).bytes ++ []) result (sym (append-nil (answer_of state line).bytes)) sends;
+    sends = sends_same old new (answer_of state line).bytes ((answer_of state line).bytes ++ []) result
+        (sym (append-nil (answer_of state line).bytes)) sends;
     state = reached;
   }
 
   -- the same of what is kept of a line
-  pub answered_kept : {T : Type 0} (old new : S) (state after : InForce) (line kept : List ℕ) (result : Result T Cause) → kept ≡ kept_of line
-      → Sends stands_for faults old new (answer_of state kept).bytes result → OnOk result (after ≡ (answer_of state kept).state) → IsAnswered stands_for faults old new state (line ∷ []) after result
+  pub answered_kept : {T : Type 0} (old new : S) (state after : InForce) (line kept : List ℕ) (result : Result T Cause)
+      → kept ≡ kept_of line
+      → Sends stands_for faults old new (answer_of state kept).bytes result
+      → OnOk result (after ≡ (answer_of state kept).state)
+      → IsAnswered stands_for faults old new state (line ∷ []) after result
   answered_kept old new state after line kept result is sends reached =
       let same : answer_of state kept ≡ answer_of state line = ap (answer_of state) is ∙ answer_of_kept state line in
       answered_line old new state after line result
@@ -56,19 +65,33 @@ module _ {S : Type 0} (stands_for : S → List ℕ → Type 0) (faults : S → �
       (subst (λ (a : Answer InForce). OnOk result (after ≡ a.state)) same reached)
 
   -- the line that the end of the script ends, where it has a byte
-  pub answered_last : {T : Type 0} (old new : S) (state after : InForce) (line kept : List ℕ) (result : Result T Cause) → kept ≡ kept_of line → nat_eq (length kept) 0 ≡ false
-      → Sends stands_for faults old new (answer_of state kept).bytes result → OnOk result (after ≡ (answer_of state kept).state) → IsAnswered stands_for faults old new state (last_line line) after result
+  pub answered_last : {T : Type 0} (old new : S) (state after : InForce) (line kept : List ℕ) (result : Result T Cause)
+      → kept ≡ kept_of line → nat_eq (length kept) 0 ≡ false
+      → Sends stands_for faults old new (answer_of state kept).bytes result
+      → OnOk result (after ≡ (answer_of state kept).state)
+      → IsAnswered stands_for faults old new state (last_line line) after result
   answered_last old new state after line kept result is some sends reached =
-      subst (λ (l : List (List ℕ)). IsAnswered stands_for faults old new state l after result) (sym (kept_some line kept is some))
+      subst (λ (l : List (List ℕ)). IsAnswered stands_for faults old new state l after result)
+      (sym (kept_some line kept is some))
       (answered_kept old new state after line kept result is sends reached)
 
   -- and where it has none
-  pub answered_none : {T : Type 0} (sink : S) (state : InForce) (line kept : List ℕ) (value : T) → kept ≡ kept_of line → nat_eq (length kept) 0 ≡ true
+  pub answered_none : {T : Type 0} (sink : S) (state : InForce) (line kept : List ℕ) (value : T) → kept ≡ kept_of line
+      → nat_eq (length kept) 0 ≡ true
       → IsAnswered stands_for faults sink sink state (last_line line) state (Ok value)
   answered_none sink state line kept value is none =
       let P : List (List ℕ) → Type 0 = λ l. IsAnswered stands_for faults sink sink state l state (Ok value) in
       subst P (sym (kept_none line kept is none))
-      (record { sends = record { whole = appends_nothing stands_for sink; front = tt; calm = refl; counts = omega arith; cause = tt }; state = refl })
+      (record {
+        sends = record {
+          whole = appends_nothing stands_for sink;
+          prefix = tt;
+          calm = refl;
+          counts = omega arith;
+          cause = tt;
+        };
+        state = refl;
+      })
 
   module _ (first : S) (start : InForce) where
     -- these lines were answered
@@ -82,48 +105,55 @@ module _ {S : Type 0} (stands_for : S → List ℕ → Type 0) (faults : S → �
     have_none = record { appends = appends_nothing stands_for first; calm = refl; reached = refl }
 
     -- the same lines, named otherwise
-    pub have_same : (now : S) (lines others : List (List ℕ)) (state : InForce) → lines ≡ others → HaveAnswers now lines state → HaveAnswers now others state
+    pub have_same : (now : S) (lines others : List (List ℕ)) (state : InForce) → lines ≡ others
+        → HaveAnswers now lines state → HaveAnswers now others state
     have_same now lines others state e h = subst (λ (l : List (List ℕ)). HaveAnswers now l state) e h
 
     -- these, and then those
-    pub have_more : {T : Type 0} (now new : S) (front lines : List (List ℕ)) (state after : InForce) (value : T) → HaveAnswers now front state
-        → IsAnswered stands_for faults now new state lines after (Ok value) → HaveAnswers new (front ++ lines) after
-    have_more now new front lines state after value h a =
-        let both = answers_then answer_of start front lines state h.reached in
+    pub have_more : {T : Type 0} (now new : S) (prefix lines : List (List ℕ)) (state after : InForce) (value : T)
+        → HaveAnswers now prefix state
+        → IsAnswered stands_for faults now new state lines after (Ok value) → HaveAnswers new (prefix ++ lines) after
+    have_more now new prefix lines state after value h a =
+        let both = answers_then answer_of start prefix lines state h.reached in
         record {
           appends = subst (Appends stands_for first new) (ap (λ (b : Answer InForce). b.bytes) (sym both))
-              (appends_then stands_for first now new (answers_to start front).bytes (answers_to state lines).bytes h.appends a.sends.whole);
+              (appends_then stands_for first now new (answers_to start prefix).bytes (answers_to state lines).bytes
+              h.appends a.sends.whole);
           calm = a.sends.calm ∙ h.calm;
           reached = a.state ∙ ap (λ (b : Answer InForce). b.state) (sym both);
         }
 
     -- all of them
-    pub have_all : {T : Type 0} (now : S) (lines : List (List ℕ)) (state : InForce) (value : T) → HaveAnswers now lines state → IsAnswered stands_for faults first now start lines state (Ok value)
+    pub have_all : {T : Type 0} (now : S) (lines : List (List ℕ)) (state : InForce) (value : T)
+        → HaveAnswers now lines state → IsAnswered stands_for faults first now start lines state (Ok value)
     have_all now lines state value h = record {
-      sends = record { whole = h.appends; front = tt; calm = h.calm; counts = omega (arith, h.calm); cause = tt };
+      sends = record { whole = h.appends; prefix = tt; calm = h.calm; counts = omega (arith, h.calm); cause = tt };
       state = h.reached;
     }
 
     -- these, and then those were cut short
-    pub have_stop : {T U : Type 0} (now new : S) (front lines more all : List (List ℕ)) (state after last : InForce) (cause : Cause) → (front ++ lines) ++ more ≡ all → HaveAnswers now front state
-        → IsAnswered {T = T} stands_for faults now new state lines after (Err cause) → IsAnswered {T = U} stands_for faults first new start all last (Err cause)
-    have_stop now new front lines more all state after last cause is h a =
-        let cut = a.sends.front in
-        let both = answers_then answer_of start front lines state h.reached in
-        let written : List ℕ = (answers_to start front).bytes ++ cut.0 in
-        let within : IsFrontOf written (answers_to start (front ++ lines)).bytes = (
+    pub have_stop : {T U : Type 0} (now new : S) (prefix lines more all : List (List ℕ)) (state after last : InForce)
+        (cause : Cause) → (prefix ++ lines) ++ more ≡ all → HaveAnswers now prefix state
+        → IsAnswered {T = T} stands_for faults now new state lines after (Err cause)
+        → IsAnswered {T = U} stands_for faults first new start all last (Err cause)
+    have_stop now new prefix lines more all state after last cause is h a =
+        let cut = a.sends.prefix in
+        let both = answers_then answer_of start prefix lines state h.reached in
+        let written : List ℕ = (answers_to start prefix).bytes ++ cut.0 in
+        let within : IsPrefixOf written (answers_to start (prefix ++ lines)).bytes = (
           cut.2.0,
           ap (λ (b : Answer InForce). b.bytes) both
-              ∙ (ap (λ (bytes : List ℕ). (answers_to start front).bytes ++ bytes) cut.2.1
-              ∙ sym (append_assoc (answers_to start front).bytes cut.0 cut.2.0)),
+              ∙ (ap (λ (bytes : List ℕ). (answers_to start prefix).bytes ++ bytes) cut.2.1
+              ∙ sym (append_assoc (answers_to start prefix).bytes cut.0 cut.2.0)),
         ) in
         record {
           sends = record {
             whole = tt;
-            front = (
+            prefix = (
               written,
-              appends_then stands_for first now new (answers_to start front).bytes cut.0 h.appends cut.1,
-              subst (λ (l : List (List ℕ)). IsFrontOf written (answers_to start l).bytes) is (answers_front answer_of start (front ++ lines) more written within),
+              appends_then stands_for first now new (answers_to start prefix).bytes cut.0 h.appends cut.1,
+              subst (λ (l : List (List ℕ)). IsPrefixOf written (answers_to start l).bytes) is
+                  (answers_prefix answer_of start (prefix ++ lines) more written within),
             );
             calm = tt;
             counts = omega (arith, a.sends.counts, h.calm);
@@ -133,16 +163,18 @@ module _ {S : Type 0} (stands_for : S → List ℕ → Type 0) (faults : S → �
         }
 
     -- these, and then memory ran out
-    pub have_no_memory : {T : Type 0} (now : S) (front more all : List (List ℕ)) (state last : InForce) → front ++ more ≡ all → HaveAnswers now front state
+    pub have_no_memory : {T : Type 0} (now : S) (prefix more all : List (List ℕ)) (state last : InForce) → prefix
+        ++ more ≡ all → HaveAnswers now prefix state
         → IsAnswered {T = T} stands_for faults first now start all last (Err causes.Memory)
-    have_no_memory now front more all state last is h = record {
+    have_no_memory now prefix more all state last is h = record {
       sends = record {
         whole = tt;
-        front = (
-          (answers_to start front).bytes,
+        prefix = (
+          (answers_to start prefix).bytes,
           h.appends,
-          subst (λ (l : List (List ℕ)). IsFrontOf (answers_to start front).bytes (answers_to start l).bytes) is
-              (answers_front answer_of start front more (answers_to start front).bytes (prefix_whole (answers_to start front).bytes)),
+          subst (λ (l : List (List ℕ)). IsPrefixOf (answers_to start prefix).bytes (answers_to start l).bytes) is
+              (answers_prefix answer_of start prefix more (answers_to start prefix).bytes
+              (prefix_whole (answers_to start prefix).bytes)),
         );
         calm = tt;
         counts = omega (arith, h.calm);
@@ -153,66 +185,88 @@ module _ {S : Type 0} (stands_for : S → List ℕ → Type 0) (faults : S → �
 
     -- in a piece the first lines were answered, and the others are those of a line that began and of the rest
     pub record PieceSoFar (now : S) (whole rest line : List ℕ) (state : InForce) : Type 0 where
-      pub front : List (List ℕ)
+      pub prefix : List (List ℕ)
       pub pending : List ℕ
       pub unfinished : lines_of pending ≡ unended pending
-      pub have : HaveAnswers now front state
-      pub lines : front ++ (lines_of (pending ++ rest)).complete ≡ (lines_of whole).complete
+      pub have : HaveAnswers now prefix state
+      pub lines : prefix ++ (lines_of (pending ++ rest)).complete ≡ (lines_of whole).complete
       pub end : (lines_of (pending ++ rest)).rest ≡ (lines_of whole).rest
       pub kept : line ≡ kept_of pending
 
     -- no line yet
-    pub piece_none : (before piece line : List ℕ) → lines_of before ≡ unended before → line ≡ kept_of before → PieceSoFar first (before ++ piece) piece line start
-    piece_none before piece line unfinished kept = record { front = []; pending = before; unfinished = unfinished; have = have_none; lines = refl; end = refl; kept = kept }
+    pub piece_none : (before piece line : List ℕ) → lines_of before ≡ unended before → line ≡ kept_of before
+        → PieceSoFar first (before ++ piece) piece line start
+    piece_none before piece line unfinished kept = record {
+      prefix = [];
+      pending = before;
+      unfinished = unfinished;
+      have = have_none;
+      lines = refl;
+      end = refl;
+      kept = kept;
+    }
 
-    module _ (now : S) (whole rest line : List ℕ) (state : InForce) (so-far : PieceSoFar now whole rest line state) where
-      -- memory ran out for what follows
-      pub piece_no_memory : {T : Type 0} (last : InForce) → IsAnswered {T = T} stands_for faults first now start (lines_of whole).complete last (Err causes.Memory)
-      piece_no_memory last = have_no_memory now so-far.front (lines_of (so-far.pending ++ rest)).complete (lines_of whole).complete state last so-far.lines so-far.have
+    module _ (now : S) (whole rest line : List ℕ) (state : InForce) (so-far : PieceSoFar now whole rest line state)
+      where
+        -- memory ran out for what follows
+        pub piece_no_memory : {T : Type 0} (last : InForce) → IsAnswered {T = T} stands_for faults first now start
+            (lines_of whole).complete last (Err causes.Memory)
+        piece_no_memory last = have_no_memory now so-far.prefix (lines_of (so-far.pending ++ rest)).complete
+            (lines_of whole).complete state last so-far.lines so-far.have
 
-      module _ (end after : List ℕ) (is : lines_of rest ≡ with_first end (lines_of after)) where
-        -- the next line, and those after it
-        next_is : lines_of (so-far.pending ++ rest) ≡ with_first (so-far.pending ++ end) (lines_of after)
-        next_is = line_after so-far.pending rest end (lines_of after) so-far.unfinished is
+        module _ (end after : List ℕ) (is : lines_of rest ≡ with_first end (lines_of after)) where
+          -- the next line, and those after it
+          next_is : lines_of (so-far.pending ++ rest) ≡ with_first (so-far.pending ++ end) (lines_of after)
+          next_is = line_after so-far.pending rest end (lines_of after) so-far.unfinished is
 
-        -- with the next line in front
-        next_lines : (so-far.front ++ (so-far.pending ++ end) ∷ []) ++ (lines_of after).complete ≡ (lines_of whole).complete
-        next_lines =
-            append_assoc so-far.front ((so-far.pending ++ end) ∷ []) (lines_of after).complete
-            ∙ (ap (λ (l : Lines). so-far.front ++ l.complete) (sym next_is) ∙ so-far.lines)
+          -- with the next line in prefix
+          next_lines : (so-far.prefix ++ (so-far.pending ++ end) ∷ [])
+              ++ (lines_of after).complete ≡ (lines_of whole).complete
+          next_lines =
+              append_assoc so-far.prefix ((so-far.pending ++ end) ∷ []) (lines_of after).complete
+              ∙ (ap (λ (l : Lines). so-far.prefix ++ l.complete) (sym next_is) ∙ so-far.lines)
 
-        -- one line more
-        pub piece_more : {T : Type 0} (new : S) (kept : List ℕ) (reached : InForce) (value : T) → kept ≡ kept_of (so-far.pending ++ end)
-            → Sends stands_for faults now new (answer_of state kept).bytes (Ok value) → reached ≡ (answer_of state kept).state → (cleared : List ℕ) → cleared ≡ [] → PieceSoFar new whole after cleared reached
-        piece_more new kept reached value keeps sends reaches cleared none = record {
-          front = so-far.front ++ (so-far.pending ++ end) ∷ [];
-          pending = [];
-          unfinished = refl;
-          have = have_more now new so-far.front ((so-far.pending ++ end) ∷ []) state reached value so-far.have
-              (answered_kept now new state reached (so-far.pending ++ end) kept (Ok value) keeps sends reaches);
-          lines = next_lines;
-          end = ap (λ (l : Lines). l.rest) (sym next_is) ∙ so-far.end;
-          kept = none;
-        }
+          -- one line more
+          pub piece_more : {T : Type 0} (new : S) (kept : List ℕ) (reached : InForce) (value : T)
+              → kept ≡ kept_of (so-far.pending ++ end)
+              → Sends stands_for faults now new (answer_of state kept).bytes (Ok value)
+              → reached ≡ (answer_of state kept).state → (cleared : List ℕ) → cleared ≡ []
+              → PieceSoFar new whole after cleared reached
+          piece_more new kept reached value keeps sends reaches cleared none = record {
+            prefix = so-far.prefix ++ (so-far.pending ++ end) ∷ [];
+            pending = [];
+            unfinished = refl;
+            have = have_more now new so-far.prefix ((so-far.pending ++ end) ∷ []) state reached value so-far.have
+                (answered_kept now new state reached (so-far.pending ++ end) kept (Ok value) keeps sends reaches);
+            lines = next_lines;
+            end = ap (λ (l : Lines). l.rest) (sym next_is) ∙ so-far.end;
+            kept = none;
+          }
 
-        -- a line that wasn't answered whole
-        pub piece_stops : {T U : Type 0} (new : S) (kept : List ℕ) (reached last : InForce) (cause : Cause) → kept ≡ kept_of (so-far.pending ++ end)
-            → Sends {T = T} stands_for faults now new (answer_of state kept).bytes (Err cause) → IsAnswered {T = U} stands_for faults first new start (lines_of whole).complete last (Err cause)
-        piece_stops new kept reached last cause keeps sends =
-            have_stop now new so-far.front ((so-far.pending ++ end) ∷ []) (lines_of after).complete (lines_of whole).complete state reached last cause next_lines so-far.have
-            (answered_kept now new state reached (so-far.pending ++ end) kept (Err cause) keeps sends tt)
+          -- a line that wasn't answered whole
+          pub piece_stops : {T U : Type 0} (new : S) (kept : List ℕ) (reached last : InForce) (cause : Cause)
+              → kept ≡ kept_of (so-far.pending ++ end)
+              → Sends {T = T} stands_for faults now new (answer_of state kept).bytes (Err cause)
+              → IsAnswered {T = U} stands_for faults first new start (lines_of whole).complete last (Err cause)
+          piece_stops new kept reached last cause keeps sends =
+              have_stop now new so-far.prefix ((so-far.pending ++ end) ∷ []) (lines_of after).complete
+              (lines_of whole).complete state reached last cause next_lines so-far.have
+              (answered_kept now new state reached (so-far.pending ++ end) kept (Err cause) keeps sends tt)
 
-      module _ (is : lines_of rest ≡ unended rest) where
-        -- no line is left
-        rest_is : lines_of (so-far.pending ++ rest) ≡ unended (so-far.pending ++ rest)
-        rest_is = rest_after so-far.pending rest so-far.unfinished is
+        module _ (is : lines_of rest ≡ unended rest) where
+          -- no line is left
+          rest_is : lines_of (so-far.pending ++ rest) ≡ unended (so-far.pending ++ rest)
+          rest_is = rest_after so-far.pending rest so-far.unfinished is
 
-        -- all complete lines were answered
-        pub piece_all : {T : Type 0} (value : T) → IsAnswered stands_for faults first now start (lines_of whole).complete state (Ok value)
-        piece_all value =
-            have_all now (lines_of whole).complete state value
-            (have_same now so-far.front (lines_of whole).complete state (sym (append-nil so-far.front) ∙ (ap (λ (l : Lines). so-far.front ++ l.complete) (sym rest_is) ∙ so-far.lines)) so-far.have)
+          -- all complete lines were answered
+          pub piece_all : {T : Type 0} (value : T)
+              → IsAnswered stands_for faults first now start (lines_of whole).complete state (Ok value)
+          piece_all value =
+              have_all now (lines_of whole).complete state value
+              (have_same now so-far.prefix (lines_of whole).complete state (sym (append-nil so-far.prefix)
+              ∙ (ap (λ (l : Lines). so-far.prefix ++ l.complete) (sym rest_is) ∙ so-far.lines)) so-far.have)
 
-        -- what follows them is kept
-        pub piece_kept : (kept : List ℕ) → kept ≡ kept_of (so-far.pending ++ rest) → kept ≡ kept_of (lines_of whole).rest
-        piece_kept kept keeps = keeps ∙ ap kept_of (ap (λ (l : Lines). l.rest) (sym rest_is) ∙ so-far.end)
+          -- what follows them is kept
+          pub piece_kept : (kept : List ℕ) → kept ≡ kept_of (so-far.pending ++ rest)
+              → kept ≡ kept_of (lines_of whole).rest
+          piece_kept kept keeps = keeps ∙ ap kept_of (ap (λ (l : Lines). l.rest) (sym rest_is) ∙ so-far.end)

@@ -1,5 +1,7 @@
 -- What answering a line promises, from what writing and making bands promise.
-use Rattle.std.proofs.Common.{◌≡◌, ℕ, zero, suc, ◌+◌, ◌-◌, ◌≤◌, Bool, true, false, not, inl, inr, ◌⊎◌, List, [], ◌∷◌, length, take, Some, slice_get, slice_set, Result, Ok, Err, IfErr, OnOk, refl, sym, ◌∙◌, ap, subst, arith}
+use Rattle.std.proofs.Common.{◌≡◌, ℕ, zero, suc, ◌+◌, ◌-◌, ◌≤◌, Bool, true, false, not, inl, inr, ◌⊎◌, List, [], ◌∷◌}
+use Rattle.std.proofs.Common.{length, take, Some, slice_get, slice_set, Result, Ok, Err, IfErr, OnOk, refl, sym, ◌∙◌}
+use Rattle.std.proofs.Common.{ap, subst, arith}
 use Rattle.std.specs.Prelude.{⊤}
 use Rattle.std.proofs.lemmas.Option.{none-some}
 use Rattle.plane_view.specs.Plane.{Plane}
@@ -15,14 +17,17 @@ use Rattle.dev_stages.specs.Plans.{planned}
 use Rattle.dev_stages.specs.contracts.stage.DevStagePartialEq.TheImpl.{ghosts}
 use Rattle.dev_stages.specs.declared.fault.PlanFault.{PlanFault}
 use Rattle.dev_stages.specs.declared.stage.DevStage.{DevStage}
-use Rattle.raw_io.specs.Outside.{IsFrontOf}
+use Rattle.raw_io.specs.Outside.{IsPrefixOf}
 use Rattle.developer.specs.declared.fault.AnswerFault.{AnswerFault}
 use Rattle.developer.specs.declared.fault.AnswerFault.TheVariants as faults
-use Rattle.developer.specs.Answered.{Appended, AreMade, IsCutAt, LeftAfter, Sends, MadeUpTo, cause_of, fault_by, fault_for}
+use Rattle.developer.specs.Answered.{Appended, AreMade, IsCutAt, LeftAfter, Sends, MadeUpTo, cause_of, fault_by}
+use Rattle.developer.specs.Answered.{fault_for}
 use Rattle.developer.specs.Answers.{Answer}
-use Rattle.developer.specs.Replies.{bands_in, command_answer, command_bands, developed, done, no_stages, part_of, region_answer, region_reply, replied, set_answer, set_by}
+use Rattle.developer.specs.Replies.{bands_in, command_answer, command_bands, developed, done, no_stages, part_of}
+use Rattle.developer.specs.Replies.{region_answer, region_reply, replied, set_answer, set_by}
 use Rattle.developer.specs.Sessions.{InForce, after_bands, is_another, restaged, stamped_if}
-use Rattle.developer.specs.Writes.{ByCause, Writes}
+use Rattle.developer.specs.Answered.{ByCause}
+use Rattle.developer.specs.inner.Writes.{Writes}
 use Rattle.developer.specs.declared.writing.Cause.{Cause}
 use Rattle.developer.specs.declared.writing.Cause.TheVariants.{Memory, Write}
 use Rattle.developer.specs.declared.writing.Stop.{Stop}
@@ -31,7 +36,8 @@ use Rattle.developer.proofs.Bandwise.{made_stay, none_made, up_to_stays}
 use Rattle.developer.proofs.Outsides.{prefix_taken}
 
 -- as many bytes as were written before a stop
-cut_for : (written : ℕ) (cause : Cause) (bytes : List ℕ) → written ≤ length bytes → IsCutAt (fault_for written cause) (take written bytes) bytes
+cut_for : (written : ℕ) (cause : Cause) (bytes : List ℕ) → written ≤ length bytes
+    → IsCutAt (fault_for written cause) (take written bytes) bytes
 cut_for written Write bytes within = (refl, within)
 cut_for written Memory bytes within = prefix_taken written bytes
 
@@ -42,33 +48,40 @@ cause_is written Memory = refl
 
 module _ {S : Type 0} (stands_for : S → List ℕ → Type 0) (faults : S → ℕ) (old new : S) (bytes : List ℕ) where
   -- a whole answer was written
-  pub appended_ok : (n : ℕ) → Writes {T = ℕ} stands_for faults old new bytes (λ k. k) (Ok n) → Appended {T = ⊤} stands_for faults old new bytes (Ok tt)
-  appended_ok n w = record { whole = w.whole; front = tt; calm = w.calm; counts = w.counts; cause = tt }
+  pub appended_ok : (n : ℕ) → Writes {T = ℕ} stands_for faults old new bytes (λ k. k) (Ok n)
+      → Appended {T = ⊤} stands_for faults old new bytes (Ok tt)
+  appended_ok n w = record { whole = w.whole; prefix = tt; calm = w.calm; counts = w.counts; cause = tt }
 
   -- or a prefix
-  pub appended_err : (stop : Stop) → Writes {T = ℕ} stands_for faults old new bytes (λ k. k) (Err stop) → Appended {T = ⊤} stands_for faults old new bytes (Err (fault_by stop))
+  pub appended_err : (stop : Stop) → Writes {T = ℕ} stands_for faults old new bytes (λ k. k) (Err stop)
+      → Appended {T = ⊤} stands_for faults old new bytes (Err (fault_by stop))
   appended_err stop w = record {
     whole = tt;
-    front = (take stop.written bytes, w.front, cut_for stop.written stop.cause bytes w.within);
+    prefix = (take stop.written bytes, w.prefix, cut_for stop.written stop.cause bytes w.within);
     calm = tt;
     counts = w.counts;
-    cause = subst (λ (cause : Cause). ByCause cause (faults old) (faults new)) (sym (cause_is stop.written stop.cause)) w.cause;
+    cause = subst (λ (cause : Cause). ByCause cause (faults old) (faults new)) (sym (cause_is stop.written stop.cause))
+        w.cause;
   }
 
 -- what was written before a fault is a prefix
-front_is : (fault : AnswerFault) (written answer : List ℕ) → IsCutAt fault written answer → IsFrontOf written answer
-front_is (faults.Write fault) written answer (is, within) = subst (λ (front : List ℕ). IsFrontOf front answer) (sym is) (prefix_taken fault.written answer)
-front_is faults.Memory written answer front = front
+prefix_is : (fault : AnswerFault) (written answer : List ℕ) → IsCutAt fault written answer → IsPrefixOf written answer
+prefix_is (faults.Write fault) written answer (is, within) =
+    subst (λ (prefix : List ℕ). IsPrefixOf prefix answer) (sym is)
+    (prefix_taken fault.written answer)
+prefix_is faults.Memory written answer prefix = prefix
 
 module _ {S : Type 0} (stands_for : S → List ℕ → Type 0) (faults : S → ℕ) (old new : S) (answer : List ℕ) where
   -- the same without how much was written
-  pub sends_ok : Appended {T = ⊤} stands_for faults old new answer (Ok tt) → Sends {T = ⊤} stands_for faults old new answer (Ok tt)
-  sends_ok a = record { whole = a.whole; front = tt; calm = a.calm; counts = a.counts; cause = tt }
+  pub sends_ok : Appended {T = ⊤} stands_for faults old new answer (Ok tt)
+      → Sends {T = ⊤} stands_for faults old new answer (Ok tt)
+  sends_ok a = record { whole = a.whole; prefix = tt; calm = a.calm; counts = a.counts; cause = tt }
 
-  pub sends_err : (fault : AnswerFault) → Appended {T = ⊤} stands_for faults old new answer (Err fault) → Sends {T = ⊤} stands_for faults old new answer (Err (cause_of fault))
+  pub sends_err : (fault : AnswerFault) → Appended {T = ⊤} stands_for faults old new answer (Err fault)
+      → Sends {T = ⊤} stands_for faults old new answer (Err (cause_of fault))
   sends_err fault a = record {
     whole = tt;
-    front = (a.front.0, a.front.1, front_is fault a.front.0 answer a.front.2);
+    prefix = (a.prefix.0, a.prefix.1, prefix_is fault a.prefix.0 answer a.prefix.2);
     calm = tt;
     counts = a.counts;
     cause = a.cause;
@@ -79,7 +92,8 @@ pub on_ok : {T E : Type 0} (r : Result T E) (A B : Type 0) → (A → B) → OnO
 on_ok (Ok value) A B f a = f a
 on_ok (Err fault) A B f a = tt
 
-pub if_err : {T E : Type 0} (r : Result T E) (A B : E → Type 0) → ((fault : E) → A fault → B fault) → IfErr r A → IfErr r B
+pub if_err : {T E : Type 0} (r : Result T E) (A B : E → Type 0) → ((fault : E) → A fault → B fault) → IfErr r A
+    → IfErr r B
 if_err (Ok value) A B f a = tt
 if_err (Err fault) A B f a = f fault a
 
@@ -88,7 +102,9 @@ if_err_any (Ok value) = tt
 if_err_any (Err fault) = tt
 
 -- the stages stay over a region, whether it is written whole or cut short
-pub region_stays : (r : Result ℕ Stop) (old new : Session DevStage) (bands : List Rect) (before after : ℕ) → OnOk r (AreMade old new bands before after) → IfErr r (λ stop. MadeUpTo stop.cause old new bands before after) → StagesStay old new
+pub region_stays : (r : Result ℕ Stop) (old new : Session DevStage) (bands : List Rect) (before after : ℕ)
+    → OnOk r (AreMade old new bands before after) → IfErr r (λ stop. MadeUpTo stop.cause old new bands before after)
+    → StagesStay old new
 region_stays (Ok value) old new bands before after made left = made_stay old new bands before after made
 region_stays (Err stop) old new bands before after made left = up_to_stays stop.cause old new bands before after left
 
@@ -98,15 +114,18 @@ unfolding command_answer
 set_command now change = refl
 
 -- nothing but the sink changed
-pub left_same : (cause : Cause) (now : InForce) (answer : Answer InForce) (bands : List Rect) (work : ℕ) → LeftAfter cause now answer bands now work work
+pub left_same : (cause : Cause) (now : InForce) (answer : Answer InForce) (bands : List Rect) (work : ℕ)
+    → LeftAfter cause now answer bands now work work
 left_same cause now answer bands work = inl (refl, none_made cause now.session bands work)
 
 -- what is in force is as before, or as after the answer
-pub left_either : (cause : Cause) (old new : InForce) (answer : Answer InForce) (work : ℕ) → new ≡ old ⊎ new ≡ answer.state → LeftAfter cause old answer [] new work work
+pub left_either : (cause : Cause) (old new : InForce) (answer : Answer InForce) (work : ℕ) → new ≡ old
+    ⊎ new ≡ answer.state → LeftAfter cause old answer [] new work work
 left_either cause old new answer work (inl is) =
     inl (
       is ∙ ap (λ (s : Session DevStage). record old { session = s }) (sym (ap (λ (n : InForce). n.session) is)),
-      subst (λ (s : Session DevStage). MadeUpTo cause old.session s [] work work) (sym (ap (λ (n : InForce). n.session) is)) (none_made cause old.session [] work),
+      subst (λ (s : Session DevStage). MadeUpTo cause old.session s [] work work)
+          (sym (ap (λ (n : InForce). n.session) is)) (none_made cause old.session [] work),
     )
 left_either cause old new answer work (inr is) = inr (is, refl, refl)
 
@@ -119,46 +138,72 @@ module _ (now : InForce) (format : Format) (x y w h : ℕ) (P : Plane) (same : P
   pub region_bands : bands_in now.session.side (part_of P x y w h) ≡ command_bands now (Ok (Region x y w h format))
   region_bands = ap (λ (Q : Plane). bands_in now.session.side (part_of Q x y w h)) same
 
-  pub region_state : record now { session = after_bands now.session (bands_in now.session.side (part_of P x y w h)) } ≡ (command_answer now (Ok (Region x y w h format))).state
+  pub region_state : record now { session = after_bands now.session (bands_in now.session.side (part_of P x y w h)) }
+      ≡ (command_answer now (Ok (Region x y w h format))).state
   unfolding command_answer region_answer
-  region_state = ap (λ (Q : Plane). record now { session = after_bands now.session (bands_in now.session.side (part_of Q x y w h)) }) same
+  region_state = ap (λ (Q : Plane). record now {
+    session = after_bands now.session
+        (bands_in now.session.side (part_of Q x y w h));
+  }) same
 
 -- a stage that was put in the place of another
-set_there : (stages : List DevStage) (i : ℕ) (stage former : DevStage) → slice_get stages i ≡ Some former → slice_get (slice_set stages i stage) i ≡ Some stage
+set_there : (stages : List DevStage) (i : ℕ) (stage former : DevStage) → slice_get stages i ≡ Some former
+    → slice_get (slice_set stages i stage) i ≡ Some stage
 set_there [] i stage former at = absurd (none-some former at)
 set_there (first ∷ stages) zero stage former at = refl
 set_there (first ∷ stages) (suc i) stage former at = set_there stages i stage former at
 
 -- the stamps by whether the stage is another one
-stamps_are : (same : Bool) (k : ℕ) (old new : Stamped) → (same ≡ true → new ≡ old) → (same ≡ false → new ≡ changed k old) → stamped_if (not same) k old ≡ new
+stamps_are : (same : Bool) (k : ℕ) (old new : Stamped) → (same ≡ true → new ≡ old)
+    → (same ≡ false → new ≡ changed k old) → stamped_if (not same) k old ≡ new
 stamps_are true k old new equal other = sym (equal refl)
 stamps_are false k old new equal other = sym (other refl)
 
 -- a session whose stage was replaced
-pub restaged_is : (old new : Session DevStage) (k : ℕ) (stage former : DevStage) → slice_get old.stages (k - 1) ≡ Some former
-    → new ≡ record old { stages = replaced k stage old.stages; stamps = new.stamps } → (ghosts.eq former stage ≡ true → new.stamps ≡ old.stamps)
-    → (ghosts.eq former stage ≡ false → new.stamps ≡ changed k old.stamps) → restaged old k (replaced k stage old.stages) ≡ new
+pub restaged_is : (old new : Session DevStage) (k : ℕ) (stage former : DevStage)
+    → slice_get old.stages (k - 1) ≡ Some former
+    → new ≡ record old { stages = replaced k stage old.stages; stamps = new.stamps }
+    → (ghosts.eq former stage ≡ true → new.stamps ≡ old.stamps)
+    → (ghosts.eq former stage ≡ false → new.stamps ≡ changed k old.stamps)
+    → restaged old k (replaced k stage old.stages) ≡ new
 restaged_is old new k stage former at is equal other =
-    let there : slice_get (replaced k stage old.stages) (k - 1) ≡ Some stage = set_there old.stages (k - 1) stage former at in
-    let another : is_another (slice_get old.stages (k - 1)) (slice_get (replaced k stage old.stages) (k - 1)) ≡ not (ghosts.eq former stage) = rw (at, there) refl in
-    let stamps : stamped_if (is_another (slice_get old.stages (k - 1)) (slice_get (replaced k stage old.stages) (k - 1))) k old.stamps ≡ new.stamps =
-    ap (λ (b : Bool). stamped_if b k old.stamps) another ∙ stamps_are (ghosts.eq former stage) k old.stamps new.stamps equal other in
+    let there : slice_get (replaced k stage old.stages) (k - 1) ≡ Some stage =
+    set_there old.stages (k - 1) stage former at in
+    let another : is_another (slice_get old.stages (k - 1)) (slice_get (replaced k stage old.stages) (k - 1))
+    ≡ not (ghosts.eq former stage) = rw (at, there) refl in
+    let stamps : stamped_if (is_another (slice_get old.stages (k - 1))
+    (slice_get (replaced k stage old.stages) (k - 1))) k old.stamps ≡ new.stamps =
+    ap (λ (b : Bool). stamped_if b k old.stamps) another ∙ stamps_are (ghosts.eq former stage) k old.stamps new.stamps
+    equal other in
     ap (λ (s : Stamped). record old { stages = replaced k stage old.stages; stamps = s }) stamps ∙ sym is
 
 -- the answer to a change, by the stages under the settings that have it
-pub change_made : (now : InForce) (change : Change) (stages : List DevStage) (session : Session DevStage) → planned now.frame (with_change change now.settings) ≡ Ok stages
+pub change_made : (now : InForce) (change : Change) (stages : List DevStage) (session : Session DevStage)
+    → planned now.frame (with_change change now.settings) ≡ Ok stages
     → restaged now.session (number_of now.frame change) stages ≡ session
-    → set_answer now change ≡ record { bytes = done; state = record now { settings = with_change change now.settings; session = session } }
+    → set_answer now change ≡ record {
+      bytes = done;
+      state = record now {
+        settings = with_change change now.settings;
+        session = session;
+      };
+    }
 unfolding set_answer
 change_made now change stages session are is =
     ap (set_by now (number_of now.frame change) (with_change change now.settings)) are
-    ∙ ap (λ (s : Session DevStage). record { bytes = done; state = record now { settings = with_change change now.settings; session = s } }) is
+    ∙ ap (λ (s : Session DevStage). record {
+      bytes = done;
+      state = record now { settings = with_change change now.settings; session = s };
+    }) is
 
-pub change_refused : (now : InForce) (change : Change) (fault : PlanFault) → planned now.frame (with_change change now.settings) ≡ Err fault → set_answer now change ≡ replied now (no_stages fault)
+pub change_refused : (now : InForce) (change : Change) (fault : PlanFault)
+    → planned now.frame (with_change change now.settings) ≡ Err fault
+    → set_answer now change ≡ replied now (no_stages fault)
 unfolding set_answer
 change_refused now change fault are = ap (set_by now (number_of now.frame change) (with_change change now.settings)) are
 
 -- a replaced stage is at most one change
-pub one_change : (old new : Stamped) (k : ℕ) (same : Bool) → (same ≡ true → new ≡ old) → (same ≡ false → new ≡ changed k old) → new.changes ≤ old.changes + 1
+pub one_change : (old new : Stamped) (k : ℕ) (same : Bool) → (same ≡ true → new ≡ old)
+    → (same ≡ false → new ≡ changed k old) → new.changes ≤ old.changes + 1
 one_change old new k true equal other = omega (arith, ap (λ (s : Stamped). s.changes) (equal refl))
 one_change old new k false equal other = omega (arith, ap (λ (s : Stamped). s.changes) (other refl))

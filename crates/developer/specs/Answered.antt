@@ -1,13 +1,12 @@
 -- What answering a line promises, beside the answer. This is this project's own.
 use Rattle.std.specs.Prelude.{◌≡◌, ℕ, ◌+◌, ◌≤◌, ◌⊎◌, List, [], ◌∷◌, ◌++◌, length, take, Result, IfErr, OnErr, OnOk}
 use Rattle.plane_view.specs.declared.Rect.{Rect}
-use Rattle.raw_io.specs.Outside.{Appends, IsFrontOf, Rises}
+use Rattle.raw_io.specs.Outside.{Appends, IsPrefixOf, Rises}
 use Rattle.region_session.specs.Sessions.{Opened as Session}
 use Rattle.dev_stages.specs.declared.stage.DevStage.{DevStage}
 use Rattle.developer.specs.Answers.{Answer}
 use Rattle.developer.specs.Replies.{answer_of, bands_for}
 use Rattle.developer.specs.Sessions.{InForce, after_bands, cells_of_bands}
-use Rattle.developer.specs.Writes.{ByCause}
 use Rattle.developer.specs.declared.fault.AnswerFault.{AnswerFault}
 use Rattle.developer.specs.declared.fault.AnswerFault.TheVariants.{Write, Memory}
 use Rattle.developer.specs.declared.writing.Cause.{Cause}
@@ -18,6 +17,12 @@ use Rattle.developer.specs.declared.writing.Stop.{Stop}
 abbrev pub cause_of : AnswerFault → Cause
 cause_of (Write fault) = causes.Write
 cause_of Memory = causes.Memory
+
+-- the sink's count of faults before and after a stop: a write failed where it rose; memory ran out where it is as it
+-- was
+abbrev pub ByCause : Cause → (before after : ℕ) → Type 0
+ByCause causes.Write before after = Rises before after
+ByCause causes.Memory before after = after ≡ before
 
 -- the fault of an answer that is cut short after so many bytes
 abbrev pub fault_for : ℕ → Cause → AnswerFault
@@ -30,22 +35,25 @@ fault_by stop = fault_for stop.written stop.cause
 -- these bytes of an answer were written before a fault: a prefix, and where a write failed, as many as the fault tells
 abbrev pub IsCutAt : AnswerFault → (written answer : List ℕ) → Type 0
 IsCutAt (Write fault) written answer = (written ≡ take fault.written answer) × (fault.written ≤ length answer)
-IsCutAt Memory written answer = IsFrontOf written answer
+IsCutAt Memory written answer = IsPrefixOf written answer
 
--- On Ok the whole answer was appended. After a fault a prefix of it was, and the sink's count of faults rose exactly where a
--- write failed.
-pub record Appended {S T : Type 0} (stands_for : S → List ℕ → Type 0) (faults : S → ℕ) (old new : S) (answer : List ℕ) (result : Result T AnswerFault) : Type 0 where
+-- On Ok the whole answer was appended. After a fault a prefix of it was, and the sink's count of faults rose exactly
+-- where a write failed.
+pub record Appended {S T : Type 0} (stands_for : S → List ℕ → Type 0) (faults : S → ℕ) (old new : S) (answer : List ℕ)
+    (result : Result T AnswerFault) : Type 0 where
   pub whole : OnOk result (Appends stands_for old new answer)
-  pub front : IfErr result (λ fault. (written : List ℕ) × Appends stands_for old new written × IsCutAt fault written answer)
+  pub prefix : IfErr result (λ fault. (written : List ℕ) × Appends stands_for old new written
+      × IsCutAt fault written answer)
   pub calm : OnOk result (faults new ≡ faults old)
   pub counts : faults old ≤ faults new
   pub cause : IfErr result (λ fault. ByCause (cause_of fault) (faults old) (faults new))
 
--- the same of several answers, without how much was written: on Ok all of these bytes were appended, and after a fault a
--- prefix of them was
-pub record Sends {S T : Type 0} (stands_for : S → List ℕ → Type 0) (faults : S → ℕ) (old new : S) (answers : List ℕ) (result : Result T Cause) : Type 0 where
+-- the same of several answers, without how much was written: on Ok all of these bytes were appended, and after a fault
+-- a prefix of them was
+pub record Sends {S T : Type 0} (stands_for : S → List ℕ → Type 0) (faults : S → ℕ) (old new : S) (answers : List ℕ)
+    (result : Result T Cause) : Type 0 where
   pub whole : OnOk result (Appends stands_for old new answers)
-  pub front : OnErr result ((written : List ℕ) × Appends stands_for old new written × IsFrontOf written answers)
+  pub prefix : OnErr result ((written : List ℕ) × Appends stands_for old new written × IsPrefixOf written answers)
   pub calm : OnOk result (faults new ≡ faults old)
   pub counts : faults old ≤ faults new
   pub cause : IfErr result (λ cause. ByCause cause (faults old) (faults new))
@@ -73,9 +81,10 @@ pub record MadeUpTo (cause : Cause) (old new : Session DevStage) (bands : List R
   pub all : made ++ rest ≡ bands
   pub outcome : AreMade old new made before after ⊎ ((cause ≡ causes.Memory) × IsCut old new made rest)
 
--- what is in force once this cause cut an answer short, whose line asks for these bands: what was before, but for the bands
--- that were made, or what is after the whole answer
-abbrev pub LeftAfter : Cause → (old : InForce) → Answer InForce → List Rect → (new : InForce) → (before after : ℕ) → Type 0
+-- what is in force once this cause cut an answer short, whose line asks for these bands: what was before, but for the
+-- bands that were made, or what is after the whole answer
+abbrev pub LeftAfter : Cause → (old : InForce) → Answer InForce → List Rect → (new : InForce) → (before after : ℕ)
+    → Type 0
 LeftAfter cause old answer bands new before after =
     ((new ≡ record old { session = new.session }) × MadeUpTo cause old.session new.session bands before after)
     ⊎ ((new ≡ answer.state) × (bands ≡ []) × (after ≡ before))

@@ -18,7 +18,8 @@ use Rattle.developer.specs.Sessions.{InForce}
 
 -- the stages of a frame under settings; without the forward matrix that they name, by no matrix
 abbrev pub stages_under : Frame → Settings → List DevStage
-stages_under frame settings = stages_with frame settings (unwrap_or (chosen_matrix frame.colour settings.matrix) camera_matrix)
+stages_under frame settings =
+    stages_with frame settings (unwrap_or (chosen_matrix frame.colour settings.matrix) camera_matrix)
 
 -- the whole development of an accepted frame under settings: its stages in their order, each applied once to the whole
 -- plane, from its raw plane on

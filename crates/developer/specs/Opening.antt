@@ -1,5 +1,6 @@
 -- What the words and the files call for, before the script. This is this project's own.
-use Rattle.std.specs.Prelude.{◌≡◌, ℕ, ◌^◌, ◌⊎◌, IfSome, IsOk, nat_lt, if◌then◌else◌, List, [], length, Option, None, Some, Result, Ok, Err}
+use Rattle.std.specs.Prelude.{◌≡◌, ℕ, ◌^◌, ◌⊎◌, IfSome, IsOk, nat_lt, if◌then◌else◌, List, [], length, Option, None}
+use Rattle.std.specs.Prelude.{Some, Result, Ok, Err}
 use Rattle.raw_io.specs.Outside.{Rises}
 use Rattle.tag_rules.specs.Answers.{and_then}
 use Rattle.dng_tags.specs.Frame.{frame_of}
@@ -128,4 +129,5 @@ opened words told = opened_for (options words) told
 abbrev pub FileUnread : (told : List ℕ → Option (List ℕ)) → (before after : List ℕ → ℕ) → Options → Type 0
 FileUnread told before after chosen =
     Rises (before chosen.frame) (after chosen.frame)
-    ⊎ ((name : List ℕ) × (chosen.settings ≡ Some name) × Rises (before name) (after name) × IfSome (told_frame (told chosen.frame)) IsOk)
+    ⊎ ((name : List ℕ) × (chosen.settings ≡ Some name) × Rises (before name) (after name)
+    × IfSome (told_frame (told chosen.frame)) IsOk)

@@ -1,5 +1,6 @@
 -- The answer to a line of the script, over what is in force. All of it is this project's own.
-use Rattle.std.specs.Prelude.{ℕ, ◌+◌, nat_le, nat_lt, ◌&&◌, if◌then◌else◌, List, [], ◌∷◌, ◌++◌, length, Option, None, Some, Result, Ok, Err, codes, decimal}
+use Rattle.std.specs.Prelude.{ℕ, ◌+◌, nat_le, nat_lt, ◌&&◌, if◌then◌else◌, List, [], ◌∷◌, ◌++◌, length, Option, None}
+use Rattle.std.specs.Prelude.{Some, Result, Ok, Err, codes, decimal}
 use Rattle.plane_view.specs.Plane.{Plane, crop}
 use Rattle.plane_view.specs.declared.Rect.{Rect}
 use Rattle.region_session.specs.Sessions.{Opened as Session, samples_kept}
@@ -102,13 +103,15 @@ region_answer now format part = record {
 
 -- of settings after a change, by the stages of the frame under them: the change is made where there are such
 abbrev pub set_by : InForce → ℕ → Settings → Result (List DevStage) PlanFault → Answer InForce
-set_by now k after (Ok stages) = record { bytes = done; state = record now { settings = after; session = restaged now.session k stages } }
+set_by now k after (Ok stages) =
+    record { bytes = done; state = record now { settings = after; session = restaged now.session k stages } }
 set_by now k after (Err fault) = replied now (no_stages fault)
 
 -- of a change
 unfoldable pub set_answer : InForce → Change → Answer InForce
 set_answer now change =
-    set_by now (number_of now.frame change) (changed change now.settings) (planned now.frame (changed change now.settings))
+    set_by now (number_of now.frame change) (changed change now.settings)
+    (planned now.frame (changed change now.settings))
 
 -- the answer to a command
 unfoldable pub command_answer : InForce → Result Command LineFault → Answer InForce

@@ -1,6 +1,7 @@
 -- What a run promises. This is this project's own.
-use Rattle.std.specs.Prelude.{◌≡◌, ℕ, ◌<◌, ◌≤◌, ◌⊎◌, List, [], length, Option, None, Some, IfOk, IfSome, Result, Ok, Err, IsOk}
-use Rattle.raw_io.specs.Outside.{IsFrontOf, Rises}
+use Rattle.std.specs.Prelude.{◌≡◌, ℕ, ◌<◌, ◌≤◌, ◌⊎◌, List, [], length, Option, None, Some, IfOk, IfSome, Result, Ok}
+use Rattle.std.specs.Prelude.{Err, IsOk}
+use Rattle.raw_io.specs.Outside.{IsPrefixOf, Rises}
 use Rattle.developer.specs.Words.{Options, options}
 use Rattle.stage_core.specs.Bases.{raised}
 use Rattle.region_session.specs.Sessions.{Opened as Session, fetched_of, kept_of, ran_of, samples_kept}
@@ -13,7 +14,8 @@ use Rattle.developer.specs.Transcript.{Transcript, answers_to, max_script, sessi
 use Rattle.developer.specs.declared.status.Ending.{Ending}
 use Rattle.developer.specs.declared.status.Ending.TheVariants as endings
 use Rattle.developer.specs.declared.status.Status.{Status}
-use Rattle.developer.specs.declared.status.Status.TheVariants.{Done, Usage, ReadFault, WriteFault, Memory, ScriptTooLong}
+use Rattle.developer.specs.declared.status.Status.TheVariants.{Done, Usage, ReadFault, WriteFault, Memory}
+use Rattle.developer.specs.declared.status.Status.TheVariants.{ScriptTooLong}
 use Rattle.developer.specs.declared.status.Status.TheVariants as statuses
 use Rattle.developer.specs.declared.writing.Cause.{Cause}
 use Rattle.developer.specs.declared.writing.Cause.TheVariants as causes
@@ -31,7 +33,8 @@ pub record Outside : Type 0 where
   -- the tally that the session is closed into
   pub tally : Tally
 
--- a call of `run`: the words, the outside before and after, the bytes that the sink took, and those taken from the script
+-- a call of `run`: the words, the outside before and after, the bytes that the sink took, and those taken from the
+-- script
 pub record Call : Type 0 where
   pub words : List (List ℕ)
   pub before : Outside
@@ -61,7 +64,7 @@ IsOpened call = IfSome (opening call) IsOk
 
 -- a prefix of the bytes that are called for was written
 abbrev pub IsPrefix : Call → Type 0
-IsPrefix call = IfSome (called call) (λ e. IsFrontOf call.written e.bytes)
+IsPrefix call = IfSome (called call) (λ e. IsPrefixOf call.written e.bytes)
 
 -- a read failed: of the files that are read before the script, or of the script, which is read only of an opened frame
 abbrev pub ReadFailed : Call → Options → Type 0
@@ -99,14 +102,15 @@ Ends call ReadFault =
 Ends call WriteFault = Rises call.before.sink_faults call.after.sink_faults × IsPrefix call
 Ends call Memory = IsPrefix call
 
--- what each status promises of the tally: it rises by the numbers of the session after the lines that were answered, once,
--- and stays where none was
+-- what each status promises of the tally: it rises by the numbers of the session after the lines that were answered,
+-- once, and stays where none was
 abbrev pub Tallies : Call → Status → Type 0
 Tallies call Done = IfSome (called call) (λ e. IsTallied e.session call.before.tally call.after.tally)
 Tallies call ScriptTooLong = IfSome (called call) (λ e. IsTallied e.session call.before.tally call.after.tally)
 Tallies call ReadFault =
     (call.taken ≡ [] → call.after.tally ≡ call.before.tally)
-    × IfSome (opening call) (λ o. IfOk o (λ now. IsTallied (session_after now (lines_of call.taken).complete) call.before.tally call.after.tally))
+    × IfSome (opening call) (λ o. IfOk o (λ now. IsTallied (session_after now (lines_of call.taken).complete)
+    call.before.tally call.after.tally))
 Tallies call status = call.after.tally ≡ call.before.tally
 
 -- no count rose

@@ -1,6 +1,7 @@
--- The settings file of a run: its settings under an accepted frame, or its first refusal, and the line of that. All of it
--- is this project's own.
-use Rattle.std.specs.Prelude.{ℕ, ◌==◌, ◌&&◌, ◌||◌, Bool, List, ◌++◌, Result, Ok, Err, codes, length, nat_le, nat_lt, if◌then◌else◌}
+-- The settings file of a run: its settings under an accepted frame, or its first refusal, and the line of that. All of
+-- it is this project's own.
+use Rattle.std.specs.Prelude.{ℕ, ◌==◌, ◌&&◌, ◌||◌, Bool, List, ◌++◌, Result, Ok, Err, codes, length, nat_le, nat_lt}
+use Rattle.std.specs.Prelude.{if◌then◌else◌}
 use Rattle.std.specs.Char.{is_ascii_alphanumeric}
 use Rattle.std.specs.List.{list_all}
 use Rattle.dng_tags.specs.declared.record.Frame.{Frame}
@@ -11,8 +12,8 @@ use Rattle.dev_stages.specs.declared.fault.PlanFault.{PlanFault}
 use Rattle.dev_stages.specs.declared.fault.PlanFault.TheVariants as fault
 use Rattle.dev_stages.specs.declared.stage.DevStage.{DevStage}
 
--- why it is refused: it is too long or no document, a key isn't known or has a wrong value, the frame hasn't the matrix,
--- or its levels aren't in order under it
+-- why it is refused: it is too long or no document, a key isn't known or has a wrong value, the frame hasn't the
+-- matrix, or its levels aren't in order under it
 pub data Refused : Type 0 where
   too_long : Refused
   not_toml : Refused

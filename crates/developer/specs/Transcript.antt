@@ -33,7 +33,8 @@ by_answers answer status = record { bytes = answer.bytes; status = status; sessi
 abbrev pub by_refusal : Refusal → Transcript
 by_refusal refusal = record { bytes = refusal.bytes; status = refusal.status; session = None }
 
--- over an opened frame: the answers to the lines of the script; where it is too long, to the complete ones of its prefix
+-- over an opened frame: the answers to the lines of the script; where it is too long, to the complete ones of its
+-- prefix
 unfoldable pub by_script : InForce → List ℕ → Transcript
 by_script now script =
     if nat_lt max_script (length script)

@@ -1,5 +1,6 @@
 -- What the words of the command line ask for, which is this project's own.
-use Rattle.std.specs.Prelude.{ℕ, ◌^◌, ◌%◌, ◌==◌, ◌&&◌, List, Option, None, Some, nat_le, option_map, option_and_then, if◌then◌else◌}
+use Rattle.std.specs.Prelude.{ℕ, ◌^◌, ◌%◌, ◌==◌, ◌&&◌, List, Option, None, Some, nat_le, option_map, option_and_then}
+use Rattle.std.specs.Prelude.{if◌then◌else◌}
 use Rattle.dev_settings.specs.Words.{number_of}
 use Rattle.developer.specs.CommandLine.{Texts, named_words}
 

@@ -31,7 +31,8 @@ pub(crate) fn make_change<B: Base>(
     requires few { session.old.stamps.changes < 2 ^ 40 }
     ensures made { OnOk result (set_answer (in_force frame.now settings.old session.old) change.now
         ≡ record { bytes = done; state = in_force frame.now settings.new session.new }) }
-    ensures fault { IfErr result (λ fault. fault ≢ PlanFault.Memory → set_answer (in_force frame.now settings.old session.old) change.now
+    ensures fault { IfErr result (λ fault. fault ≢ PlanFault.Memory
+        → set_answer (in_force frame.now settings.old session.old) change.now
         ≡ replied (in_force frame.now settings.old session.old) (no_stages fault)) }
     ensures in_force { IsInForce (in_force frame.now settings.new session.new) }
     ensures few { session.new.stamps.changes ≤ session.old.stamps.changes + 1 }

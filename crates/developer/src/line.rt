@@ -6,9 +6,10 @@ ghost use Rattle.dev_settings.specs.Ranges.{ChangeInRange, CommandInRange};
 ghost use Rattle.developer.specs.Answered.{Appended, AreMade, LeftAfter, LeftBy, MadeUpTo};
 ghost use Rattle.developer.specs.Develop.{IsInForce};
 ghost use Rattle.dev_stages.specs.Members.{apply_of};
-ghost use Rattle.developer.specs.Replies.{answer_of, bands_for, bands_in, command_answer, command_bands, line_answer, line_bands, no_command, part_of, region_reply, set_answer, stat_reply};
+ghost use Rattle.developer.specs.Replies.{answer_of, bands_for, bands_in, command_answer, command_bands, line_answer};
+ghost use Rattle.developer.specs.Replies.{line_bands, no_command, part_of, region_reply, set_answer, stat_reply};
 ghost use Rattle.developer.specs.Sessions.{cells_of_bands, in_force};
-ghost use Rattle.developer.specs.Writes.{Writes};
+ghost use Rattle.developer.specs.inner.Writes.{Writes};
 
 use crate::changes::make_change;
 use crate::fault::AnswerFault;
@@ -46,9 +47,12 @@ pub fn answer<B: Base, O: Sink, L: Ledger>(
 ) -> Result<(), AnswerFault>
     requires in_force { IsInForce (in_force frame.now settings.old session.old) }
     requires few { session.old.stamps.changes < 2 ^ 40 }
-    ensures written { Appended O.stands_for O.faults out.old out.new (answer_of (in_force frame.now settings.old session.old) line.now).bytes result }
-    ensures state { OnOk result (in_force frame.now settings.new session.new ≡ (answer_of (in_force frame.now settings.old session.old) line.now).state) }
-    ensures work { OnOk result (work.new ≡ work.old + cells_of_bands session.old (bands_for (in_force frame.now settings.old session.old) line.now)) }
+    ensures written { Appended O.stands_for O.faults out.old out.new
+        (answer_of (in_force frame.now settings.old session.old) line.now).bytes result }
+    ensures state { OnOk result (in_force frame.now settings.new session.new
+        ≡ (answer_of (in_force frame.now settings.old session.old) line.now).state) }
+    ensures work { OnOk result (work.new ≡ work.old + cells_of_bands session.old
+        (bands_for (in_force frame.now settings.old session.old) line.now)) }
     ensures left { IfErr result (λ fault. LeftBy fault (in_force frame.now settings.old session.old) line.now
         (in_force frame.now settings.new session.new) work.old work.new) }
     ensures in_force { IsInForce (in_force frame.now settings.new session.new) }
@@ -74,11 +78,14 @@ fn answer_text<B: Base, O: Sink, L: Ledger>(
     requires in_force { IsInForce (in_force frame.now settings.old session.old) }
     requires few { session.old.stamps.changes < 2 ^ 40 }
     ensures writes { Writes O.stands_for O.faults out.old out.new
-        (line_answer (in_force frame.now settings.old session.old) (option_map (λ text. text.now) text.entry)).bytes (λ n. n) result }
+        (line_answer (in_force frame.now settings.old session.old) (option_map (λ text. text.now) text.entry)).bytes
+        (λ n. n) result }
     ensures state { OnOk result (in_force frame.now settings.new session.new
-        ≡ (line_answer (in_force frame.now settings.old session.old) (option_map (λ text. text.now) text.entry)).state) }
+        ≡ (line_answer (in_force frame.now settings.old session.old)
+        (option_map (λ text. text.now) text.entry)).state) }
     ensures work { OnOk result (work.new ≡ work.old
-        + cells_of_bands session.old (line_bands (in_force frame.now settings.old session.old) (option_map (λ text. text.now) text.entry))) }
+        + cells_of_bands session.old (line_bands (in_force frame.now settings.old session.old)
+        (option_map (λ text. text.now) text.entry))) }
     ensures left { IfErr result (λ stop. LeftAfter stop.cause (in_force frame.now settings.old session.old)
         (line_answer (in_force frame.now settings.old session.old) (option_map (λ text. text.now) text.entry))
         (line_bands (in_force frame.now settings.old session.old) (option_map (λ text. text.now) text.entry))
@@ -114,11 +121,15 @@ fn answer_command<B: Base, O: Sink, L: Ledger>(
     requires in_range { IfOk command CommandInRange }
     requires in_force { IsInForce (in_force frame.now settings.old session.old) }
     requires few { session.old.stamps.changes < 2 ^ 40 }
-    ensures writes { Writes O.stands_for O.faults out.old out.new (command_answer (in_force frame.now settings.old session.old) command).bytes (λ n. n) result }
-    ensures state { OnOk result (in_force frame.now settings.new session.new ≡ (command_answer (in_force frame.now settings.old session.old) command).state) }
-    ensures work { OnOk result (work.new ≡ work.old + cells_of_bands session.old (command_bands (in_force frame.now settings.old session.old) command)) }
+    ensures writes { Writes O.stands_for O.faults out.old out.new
+        (command_answer (in_force frame.now settings.old session.old) command).bytes (λ n. n) result }
+    ensures state { OnOk result (in_force frame.now settings.new session.new
+        ≡ (command_answer (in_force frame.now settings.old session.old) command).state) }
+    ensures work { OnOk result (work.new ≡ work.old + cells_of_bands session.old
+        (command_bands (in_force frame.now settings.old session.old) command)) }
     ensures left { IfErr result (λ stop. LeftAfter stop.cause (in_force frame.now settings.old session.old)
-        (command_answer (in_force frame.now settings.old session.old) command) (command_bands (in_force frame.now settings.old session.old) command)
+        (command_answer (in_force frame.now settings.old session.old) command)
+        (command_bands (in_force frame.now settings.old session.old) command)
         (in_force frame.now settings.new session.new) work.old work.new) }
     ensures in_force { IsInForce (in_force frame.now settings.new session.new) }
     ensures few { session.new.stamps.changes ≤ session.old.stamps.changes + 1 }
@@ -146,12 +157,15 @@ fn answer_region<B: Base, O: Sink, L: Ledger>(
     work: &mut Steps<L>,
 ) -> Result<u64, Stop>
     requires planes { (whole_of apply_of session.old.stages session.old.plane).planes ≡ 3 }
-    ensures writes { Writes O.stands_for O.faults out.old out.new (region_reply (whole_of apply_of session.old.stages session.old.plane) format
+    ensures writes { Writes O.stands_for O.faults out.old out.new
+        (region_reply (whole_of apply_of session.old.stages session.old.plane) format
         (part_of (whole_of apply_of session.old.stages session.old.plane) x y w h)) (λ n. n) result }
     ensures made { OnOk result (AreMade session.old session.new
-        (bands_in session.old.side (part_of (whole_of apply_of session.old.stages session.old.plane) x y w h)) work.old work.new) }
+        (bands_in session.old.side (part_of (whole_of apply_of session.old.stages session.old.plane) x y w h)) work.old
+        work.new) }
     ensures left { IfErr result (λ stop. MadeUpTo stop.cause session.old session.new
-        (bands_in session.old.side (part_of (whole_of apply_of session.old.stages session.old.plane) x y w h)) work.old work.new) }
+        (bands_in session.old.side (part_of (whole_of apply_of session.old.stages session.old.plane) x y w h)) work.old
+        work.new) }
 {
     match part(session, x, y, w, h) {
         Some(rect) => write_image(alloc, session, rect, format, out, work),
@@ -171,10 +185,14 @@ fn answer_set<B: Base, O: Sink>(
     requires in_force { IsInForce (in_force frame.now settings.old session.old) }
     requires in_range { ChangeInRange change.now }
     requires few { session.old.stamps.changes < 2 ^ 40 }
-    ensures writes { Writes O.stands_for O.faults out.old out.new (set_answer (in_force frame.now settings.old session.old) change.now).bytes (λ n. n) result }
-    ensures state { OnOk result (in_force frame.now settings.new session.new ≡ (set_answer (in_force frame.now settings.old session.old) change.now).state) }
-    ensures left { IfErr result (λ stop. in_force frame.now settings.new session.new ≡ in_force frame.now settings.old session.old
-        ⊎ in_force frame.now settings.new session.new ≡ (set_answer (in_force frame.now settings.old session.old) change.now).state) }
+    ensures writes { Writes O.stands_for O.faults out.old out.new
+        (set_answer (in_force frame.now settings.old session.old) change.now).bytes (λ n. n) result }
+    ensures state { OnOk result (in_force frame.now settings.new session.new
+        ≡ (set_answer (in_force frame.now settings.old session.old) change.now).state) }
+    ensures left { IfErr result (λ stop.
+        in_force frame.now settings.new session.new ≡ in_force frame.now settings.old session.old
+        ⊎ in_force frame.now settings.new session.new
+        ≡ (set_answer (in_force frame.now settings.old session.old) change.now).state) }
     ensures in_force { IsInForce (in_force frame.now settings.new session.new) }
     ensures few { session.new.stamps.changes ≤ session.old.stamps.changes + 1 }
 {

@@ -4,14 +4,14 @@ ghost use Rattle.std.specs.Prelude.{◌≡◌, ◌+◌, ◌^◌, ◌<◌, ◌≤
 ghost use Rattle.dng_tags.specs.Facts.{IsFrame};
 ghost use Rattle.dng_tags.specs.Raw.{raw};
 ghost use Rattle.developer.specs.Answered.{Sends};
-ghost use Rattle.developer.specs.Closing.{IsIdle};
+ghost use Rattle.developer.specs.inner.Closing.{IsIdle};
 ghost use Rattle.developer.specs.Develop.{stages_under};
 ghost use Rattle.developer.specs.Opening.{begun_over};
-ghost use Rattle.developer.specs.Planning.{IsPlanned};
+ghost use Rattle.developer.specs.inner.Planning.{IsPlanned};
 ghost use Rattle.developer.specs.Replies.{answer_of};
 ghost use Rattle.developer.specs.Run.{RisesBy};
 ghost use Rattle.developer.specs.Sessions.{in_force};
-ghost use Rattle.developer.specs.Shown.{option_view};
+ghost use Rattle.developer.specs.inner.Shown.{option_view};
 
 use crate::line::answer;
 use crate::options::Options;
@@ -60,7 +60,13 @@ impl<'a> OpenedFrame<'a> {
         requires read { (bytes : _) × IsFrame frame bytes × (segments.plane ≡ raw bytes frame) }
         requires planned { IsPlanned frame planned }
         ensures { IfOk result (λ now. now
-            ≡ in_force frame planned.settings (begun_over (option_view options.now) (record { plane = segments.entry.plane; cells = segments.entry.cells; fetches = segments.entry.fetches })
+            ≡ in_force frame planned.settings
+            (begun_over (option_view options.now)
+            (record {
+              plane = segments.entry.plane;
+              cells = segments.entry.cells;
+              fetches = segments.entry.fetches;
+            })
             (stages_under frame planned.settings))) }
     {
         match Session::open(

@@ -1,14 +1,15 @@
 //! Opening a frame: the words, the frame's file, its record and its settings.
 
-ghost use Rattle.std.specs.Prelude.{◌≡◌, ℕ, ◌≤◌, List, [], Option, Some, map, option_map, string_bytes, IfErr, IfOk, IfSome, OnOk, Ok};
+ghost use Rattle.std.specs.Prelude.{◌≡◌, ℕ, ◌≤◌, List, [], Option, Some, map, option_map, string_bytes, IfErr, IfOk};
+ghost use Rattle.std.specs.Prelude.{IfSome, OnOk, Ok};
 ghost use Rattle.raw_io.specs.Outside.{Appends};
-ghost use Rattle.developer.specs.Closing.{IsFresh};
+ghost use Rattle.developer.specs.inner.Closing.{IsFresh};
 ghost use Rattle.developer.specs.Opening.{opened};
 ghost use Rattle.dng_tags.specs.Facts.{IsFrame};
-ghost use Rattle.developer.specs.Opens.{Opens, OpensFiles, Refuses};
-ghost use Rattle.developer.specs.Planning.{seen};
+ghost use Rattle.developer.specs.inner.Opens.{Opens, OpensFiles, Refuses};
+ghost use Rattle.developer.specs.inner.Planning.{seen};
 ghost use Rattle.developer.specs.SettingsFile.{settings_line};
-ghost use Rattle.developer.specs.Shown.{option_view};
+ghost use Rattle.developer.specs.inner.Shown.{option_view};
 ghost use Rattle.developer.specs.Refusals.{refusal_line};
 ghost use Rattle.developer.specs.Run.{Ends, status_of};
 ghost use Rattle.developer.specs.Words.{Options as Chosen, options};
@@ -42,7 +43,7 @@ pub(crate) enum OpenFault {
 }
 
 impl From<ReadFault> for OpenFault {
-    ghost use Rattle.developer.specs.Opens.{open_fault};
+    ghost use Rattle.developer.specs.inner.Opens.{open_fault};
 
     ghost from_gives = { λ fault e. e ≡ open_fault fault };
 
@@ -56,7 +57,7 @@ impl From<ReadFault> for OpenFault {
 }
 
 impl From<FrameFault> for OpenFault {
-    ghost use Rattle.developer.specs.Opens.{refused_or_memory};
+    ghost use Rattle.developer.specs.inner.Opens.{refused_or_memory};
 
     ghost from_gives = { λ fault e. e ≡ refused_or_memory fault };
 
@@ -69,7 +70,7 @@ impl From<FrameFault> for OpenFault {
 }
 
 impl From<SettingsStop> for OpenFault {
-    ghost use Rattle.developer.specs.Opens.{stopped};
+    ghost use Rattle.developer.specs.inner.Opens.{stopped};
 
     ghost from_gives = { λ stop e. e ≡ stopped stop };
 
@@ -92,8 +93,8 @@ impl From<AllocError> for OpenFault {
     }
 }
 
-/// Opens a frame that was read from these bytes: decodes each of its segments, and then reads the settings file, where one
-/// is named.
+/// Opens a frame that was read from these bytes: decodes each of its segments, and then reads the settings file, where
+/// one is named.
 fn open_frame<'a, F: Files>(
     alloc: Global,
     files: &mut F,
@@ -113,8 +114,8 @@ fn open_frame<'a, F: Files>(
     Ok(OpenedFrame::new(alloc, frame, segments, planned, options)?)
 }
 
-/// Reads and opens the frame that the words ask for, under the settings that they ask for. The bytes of its file stay in
-/// `memory`.
+/// Reads and opens the frame that the words ask for, under the settings that they ask for. The bytes of its file stay
+/// in `memory`.
 fn read_frame_file<'a, F: Files>(
     alloc: Global,
     files: &mut F,
@@ -123,7 +124,8 @@ fn read_frame_file<'a, F: Files>(
 ) -> Result<OpenedFrame<'a>, OpenFault>
     ensures told { (other : List ℕ) → F.told files.new other ≡ F.told files.old other }
     ensures counts { (other : List ℕ) → F.faults files.old other ≤ F.faults files.new other }
-    ensures opens { OpensFiles (F.told files.old) (F.faults files.old) (F.faults files.new) (option_view options.now) result }
+    ensures opens { OpensFiles (F.told files.old) (F.faults files.old) (F.faults files.new) (option_view options.now)
+        result }
     ensures fresh { IfOk result (λ now. IsFresh now.session) }
 {
     *memory = read_all(alloc, files, options.frame, MAX_BYTES)?;
@@ -155,10 +157,12 @@ pub(crate) fn open<'a, F: Files, O: Sink>(
     ensures files { (name : List ℕ) → F.faults files.old name ≤ F.faults files.new name }
     ensures sink { O.faults out.old ≤ O.faults out.new }
     ensures words { OnOk result ((chosen : Chosen) × (options (map string_bytes words.now) ≡ Some chosen)) }
-    ensures opened { IfOk result (λ now. IfSome (opened (map string_bytes words.now) (F.told files.old)) (λ o. o ≡ Ok now)) }
+    ensures opened { IfOk result (λ now. IfSome (opened (map string_bytes words.now) (F.told files.old))
+        (λ o. o ≡ Ok now)) }
     ensures fresh { IfOk result (λ now. IsFresh now.session) }
     ensures untouched { OnOk result (out.new ≡ out.old) }
-    ensures ended { IfErr result (λ ending. (left : Option (List ℕ)) (script_faults : ℕ) (tally : Tally) → (written : List ℕ)
+    ensures ended { IfErr result (λ ending. (left : Option (List ℕ)) (script_faults : ℕ) (tally : Tally)
+        → (written : List ℕ)
         × Appends O.stands_for out.old out.new written
         × Ends (record {
           words = map string_bytes words.now;

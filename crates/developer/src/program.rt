@@ -2,7 +2,7 @@
 
 ghost use Rattle.std.specs.Prelude.{◌≡◌, ℕ, List, map, string_bytes};
 ghost use Rattle.raw_io.specs.Outside.{Appends, Takes};
-ghost use Rattle.developer.specs.Closing.{IsClosed};
+ghost use Rattle.developer.specs.inner.Closing.{IsClosed};
 ghost use Rattle.developer.specs.Run.{Promises};
 
 use crate::opened::OpenedFrame;

@@ -1,6 +1,7 @@
 //! Regions of what the stages of a session make: band by band, each a part of one row of cells.
 
-ghost use Rattle.std.specs.Prelude.{◌≡◌, ℕ, ◌+◌, ◌-◌, ◌*◌, ◌^◌, ◌≤◌, ◌<◌, ◌⊎◌, ◌++◌, [], ◌∷◌, length, Err, IfOk, IfErr, IfSome, OnOk, min};
+ghost use Rattle.std.specs.Prelude.{◌≡◌, ℕ, ◌+◌, ◌-◌, ◌*◌, ◌^◌, ◌≤◌, ◌<◌, ◌⊎◌, ◌++◌, [], ◌∷◌, length, Err, IfOk, IfErr};
+ghost use Rattle.std.specs.Prelude.{IfSome, OnOk, min};
 ghost use Rattle.plane_view.specs.Plane.{crop};
 ghost use Rattle.plane_view.specs.Rectangles.{area_of};
 ghost use Rattle.plane_view.specs.Shapes.{IsShape};
@@ -13,10 +14,10 @@ ghost use Rattle.dev_stages.specs.Members.{apply_of, shaped_of};
 ghost use Rattle.image_out.specs.Image.{head_of, pixels_of, reply_head_of};
 ghost use Rattle.developer.specs.Answered.{AreMade, IsRefused, MadeUpTo};
 ghost use Rattle.developer.specs.Develop.{Develops, IsWithin};
-ghost use Rattle.developer.specs.Pieces.{InPieces};
+ghost use Rattle.developer.specs.inner.Pieces.{InPieces};
 ghost use Rattle.developer.specs.Replies.{image, image_reply, part_of};
 ghost use Rattle.developer.specs.Sessions.{band_at, bands_of};
-ghost use Rattle.developer.specs.Writes.{Writes};
+ghost use Rattle.developer.specs.inner.Writes.{Writes};
 
 use crate::writing::{Cause, Stop, write_piece, write_samples};
 use dev_settings::Format;
@@ -39,7 +40,8 @@ pub(crate) fn part<B: Base>(
 ) -> Option<Rect>
     ensures rect { result ≡ part_of (whole_of apply_of session.now.stages session.now.plane) x y w h }
     ensures within { IfSome result (λ rect. IsWithin rect (whole_of apply_of session.now.stages session.now.plane)) }
-    ensures plane { (last : Shape) × IsShape last × IsPlane (whole_of apply_of session.now.stages session.now.plane) last
+    ensures plane { (last : Shape) × IsShape last × IsPlane (whole_of apply_of session.now.stages session.now.plane)
+        last
         × (last ≡ last_shape shaped_of (shape_of session.now.plane) session.now.stages) }
 {
     let Shape { rows, cols, .. } = session.shape();
@@ -57,8 +59,8 @@ pub(crate) fn part<B: Base>(
     }
 }
 
-/// Writes a part of the last plane as an image, after the line that tells its length. The line, the image's head and its
-/// first rows go out together, and rows in pieces of at least 64 KiB where there are as many.
+/// Writes a part of the last plane as an image, after the line that tells its length. The line, the image's head and
+/// its first rows go out together, and rows in pieces of at least 64 KiB where there are as many.
 pub(crate) fn write_image<B: Base, O: Sink, L: Ledger>(
     alloc: Global,
     session: &mut Session<B, DevStage>,
@@ -72,7 +74,8 @@ pub(crate) fn write_image<B: Base, O: Sink, L: Ledger>(
     ensures writes { Writes O.stands_for O.faults out.old out.new
         (image_reply (image (whole_of apply_of session.old.stages session.old.plane) rect format)) (λ n. n) result }
     ensures made { OnOk result (AreMade session.old session.new (bands_of session.old.side rect) work.old work.new) }
-    ensures left { IfErr result (λ stop. MadeUpTo stop.cause session.old session.new (bands_of session.old.side rect) work.old work.new) }
+    ensures left { IfErr result (λ stop. MadeUpTo stop.cause session.old session.new (bands_of session.old.side rect)
+        work.old work.new) }
 {
     let mut piece = Piece::new(alloc)?;
     push_heads(
@@ -118,8 +121,8 @@ fn push_heads(w: u32, h: u32, format: Format, piece: &mut Piece)
     }
 }
 
-/// Writes what a piece holds and then the samples of a rectangle of the last plane. Its rows that lie in one row of cells
-/// are a band, for whose samples there is room.
+/// Writes what a piece holds and then the samples of a rectangle of the last plane. Its rows that lie in one row of
+/// cells are a band, for whose samples there is room.
 fn write_bands<B: Base, O: Sink, L: Ledger>(
     session: &mut Session<B, DevStage>,
     rect: Rect,
@@ -132,11 +135,14 @@ fn write_bands<B: Base, O: Sink, L: Ledger>(
     requires develops { Develops session.old.plane session.old.stages }
     requires within { IsWithin rect (whole_of apply_of session.old.stages session.old.plane) }
     requires heads { length piece.old ≤ 256 }
-    requires samples { length samples.old ≡ min (rect.bottom - rect.top) session.old.side * ((rect.right - rect.left) * 3) }
+    requires samples { length samples.old ≡ min (rect.bottom - rect.top) session.old.side *
+        ((rect.right - rect.left) * 3) }
     ensures writes { Writes O.stands_for O.faults out.old out.new
-        (piece.old ++ pixels_of format (crop (whole_of apply_of session.old.stages session.old.plane) rect).samples) (λ n. n) result }
+        (piece.old ++ pixels_of format (crop (whole_of apply_of session.old.stages session.old.plane) rect).samples)
+        (λ n. n) result }
     ensures made { OnOk result (AreMade session.old session.new (bands_of session.old.side rect) work.old work.new) }
-    ensures left { IfErr result (λ stop. MadeUpTo stop.cause session.old session.new (bands_of session.old.side rect) work.old work.new) }
+    ensures left { IfErr result (λ stop. MadeUpTo stop.cause session.old session.new (bands_of session.old.side rect)
+        work.old work.new) }
 {
     let side = session.cell();
     let mut written = 0;
@@ -179,12 +185,15 @@ fn write_band<B: Base, O: Sink, L: Ledger>(
     requires few { written + length piece.old + 2 * (area_of band * 3) < 2 ^ 60 }
     ensures pieces { (first : _) (all : _) → InPieces O.stands_for O.faults first out.old all piece.old written
         → IfOk result (λ total. InPieces O.stands_for O.faults first out.new
-        (all ++ pixels_of format (crop (whole_of apply_of session.old.stages session.old.plane) band).samples) piece.new total) }
+        (all ++ pixels_of format (crop (whole_of apply_of session.old.stages session.old.plane) band).samples) piece.new
+        total) }
     ensures stops { (first : _) (all : _) → InPieces O.stands_for O.faults first out.old all piece.old written
         → IfErr result (λ stop. Writes {T = ℕ} O.stands_for O.faults first out.new
-        (all ++ pixels_of format (crop (whole_of apply_of session.old.stages session.old.plane) band).samples) (λ n. n) (Err stop)) }
+        (all ++ pixels_of format (crop (whole_of apply_of session.old.stages session.old.plane) band).samples) (λ n. n)
+        (Err stop)) }
     ensures room { OnOk result (length piece.new < 65536) }
-    ensures number { IfOk result (λ total. total + length piece.new ≡ written + length piece.old + 2 * (area_of band * 3)) }
+    ensures number { IfOk result (λ total. total + length piece.new ≡ written + length piece.old + 2 *
+        (area_of band * 3)) }
     ensures made { OnOk result (AreMade session.old session.new (band ∷ []) work.old work.new) }
     ensures left { IfErr result (λ stop. AreMade session.old session.new (band ∷ []) work.old work.new
         ⊎ ((stop.cause ≡ Cause.Memory) × IsRefused session.old session.new)) }

@@ -2,7 +2,7 @@
 
 ghost use Rattle.std.specs.Prelude.{◌≡◌, ℕ, ◌+◌, ◌^◌, ◌<◌, ◌≤◌, List, [], ◌++◌, length, OnOk};
 ghost use Rattle.dev_settings.specs.Lines.{last_line, lines_of, unended};
-ghost use Rattle.developer.specs.Reading.{IsAnswered, Reads, kept_of};
+ghost use Rattle.developer.specs.inner.Reading.{IsAnswered, Reads, kept_of};
 
 use crate::opened::OpenedFrame;
 use crate::status::Ending;
@@ -25,7 +25,8 @@ const MAX_KEPT: usize = MAX_LINE_BYTES + 1;
 
 /// Appends bytes to a line, of which no more than `MAX_KEPT` are kept.
 fn keep(line: &mut Vec<u8>, bytes: &[u8]) -> Result<(), AllocError>
-    ensures { OnOk result ((before : List ℕ) → line.old.items ≡ kept_of before → line.new.items ≡ kept_of (before ++ bytes.now)) }
+    ensures { OnOk result ((before : List ℕ) → line.old.items ≡ kept_of before
+        → line.new.items ≡ kept_of (before ++ bytes.now)) }
 {
     let room = MAX_KEPT - line.len().min(MAX_KEPT);
     line.extend_from_slice(&bytes[..bytes.len().min(room)])
@@ -43,7 +44,8 @@ fn answer_piece<O: Sink, L: Ledger>(
 ) -> Result<(), Cause>
     requires few { frame.old.session.stamps.changes + length piece.now < 2 ^ 40 }
     ensures answers { (before : List ℕ) → lines_of before ≡ unended before → line.old.items ≡ kept_of before
-        → IsAnswered O.stands_for O.faults out.old out.new frame.old (lines_of (before ++ piece.now)).complete frame.new result }
+        → IsAnswered O.stands_for O.faults out.old out.new frame.old (lines_of (before ++ piece.now)).complete frame.new
+        result }
     ensures kept { OnOk result ((before : List ℕ) → lines_of before ≡ unended before → line.old.items ≡ kept_of before
         → line.new.items ≡ kept_of (lines_of (before ++ piece.now)).rest) }
     ensures few { frame.new.session.stamps.changes ≤ frame.old.session.stamps.changes + length piece.now }
@@ -91,7 +93,8 @@ fn answer_script<C: Source, O: Sink, L: Ledger>(
     requires begun { frame.old.session.stamps.changes ≡ 0 }
     requires empty { line.old.items ≡ [] }
     requires some { 0 < length piece.old }
-    ensures { Reads C.left C.faults O.stands_for O.faults frame.old script.old script.new out.old out.new frame.new result }
+    ensures { Reads C.left C.faults O.stands_for O.faults frame.old script.old script.new out.old out.new frame.new
+        result }
 {
     let mut taken = 0;
     while taken <= MAX_SCRIPT {
@@ -116,7 +119,8 @@ pub(crate) fn run_script<C: Source, O: Sink>(
     out: &mut O,
 ) -> Result<(), Ending>
     requires begun { frame.old.session.stamps.changes ≡ 0 }
-    ensures { Reads C.left C.faults O.stands_for O.faults frame.old script.old script.new out.old out.new frame.new result }
+    ensures { Reads C.left C.faults O.stands_for O.faults frame.old script.old script.new out.old out.new frame.new
+        result }
 {
     run_counted::<C, O, Brand>(alloc, frame, script, out, Blank::new(1))
 }
@@ -133,7 +137,8 @@ fn run_counted<C: Source, O: Sink, L: Ledger>(
     requires parts { blank.parts ≡ L.parts }
     requires some { 0 < blank.parts }
     requires begun { frame.old.session.stamps.changes ≡ 0 }
-    ensures { Reads C.left C.faults O.stands_for O.faults frame.old script.old script.new out.old out.new frame.new result }
+    ensures { Reads C.left C.faults O.stands_for O.faults frame.old script.old script.new out.old out.new frame.new
+        result }
 {
     let mut work = Steps::<L>::new(blank);
     let mut piece = vec![in alloc; 0u8; PIECE]?;

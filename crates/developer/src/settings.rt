@@ -5,8 +5,9 @@ ghost use Rattle.std.specs.List.{list_all};
 ghost use Rattle.dng_tags.specs.Facts.{IsFrame};
 ghost use Rattle.dev_settings.specs.Settings.{standard_settings};
 ghost use Rattle.dev_stages.specs.Plannable.{IsPlannable};
-ghost use Rattle.developer.specs.SettingsFile.{file_settings, is_letter, is_plain, refusal_text, settings_line, shown_name};
-ghost use Rattle.developer.specs.Planning.{IsPlanned, Plans, PlansUnder, ReadsSettings, seen};
+ghost use Rattle.developer.specs.SettingsFile.{file_settings, is_letter, is_plain, refusal_text, settings_line};
+ghost use Rattle.developer.specs.SettingsFile.{shown_name};
+ghost use Rattle.developer.specs.inner.Planning.{IsPlanned, Plans, PlansUnder, ReadsSettings, seen};
 
 use dev_settings::{Settings, SettingsFault};
 use dev_stages::{DevStage, PlanFault, plan};
@@ -57,7 +58,7 @@ pub(crate) enum SettingsStop {
 }
 
 impl From<ReadFault> for SettingsStop {
-    ghost use Rattle.developer.specs.Planning.{stop_of_read};
+    ghost use Rattle.developer.specs.inner.Planning.{stop_of_read};
 
     ghost from_gives = { λ fault e. e ≡ stop_of_read fault };
 
@@ -71,7 +72,7 @@ impl From<ReadFault> for SettingsStop {
 }
 
 impl From<SettingsFault> for SettingsStop {
-    ghost use Rattle.developer.specs.Planning.{stop_of_file};
+    ghost use Rattle.developer.specs.inner.Planning.{stop_of_file};
 
     ghost from_gives = { λ fault e. e ≡ stop_of_file fault };
 
@@ -86,7 +87,7 @@ impl From<SettingsFault> for SettingsStop {
 }
 
 impl From<PlanFault> for SettingsStop {
-    ghost use Rattle.developer.specs.Planning.{stop_of_plan};
+    ghost use Rattle.developer.specs.inner.Planning.{stop_of_plan};
 
     ghost from_gives = { λ fault e. e ≡ stop_of_plan fault };
 
@@ -103,8 +104,8 @@ impl From<PlanFault> for SettingsStop {
 ///
 /// # Errors
 ///
-/// `Refused` exactly where the file is refused, with its first refusal; `Unread` where a read of it failed; `Memory` where
-/// there was no memory.
+/// `Refused` exactly where the file is refused, with its first refusal; `Unread` where a read of it failed; `Memory`
+/// where there was no memory.
 pub(crate) fn read_settings<F: Files>(
     alloc: Global,
     files: &mut F,
@@ -114,7 +115,8 @@ pub(crate) fn read_settings<F: Files>(
     requires frame { IsPlannable frame.now }
     ensures told { (other : List ℕ) → F.told files.new other ≡ F.told files.old other }
     ensures counts { (other : List ℕ) → F.faults files.old other ≤ F.faults files.new other }
-    ensures reads { ReadsSettings frame.now (F.told files.old name.now) (F.faults files.old name.now) (F.faults files.new name.now) result }
+    ensures reads { ReadsSettings frame.now (F.told files.old name.now) (F.faults files.old name.now)
+        (F.faults files.new name.now) result }
 {
     let bytes = read_all(alloc, files, name, MAX_SETTINGS)?;
     settings_for(alloc, &bytes, frame)
@@ -135,7 +137,8 @@ pub(crate) fn plan_under<F: Files>(
     requires frame { (bytes : List ℕ) × IsFrame frame.now bytes }
     ensures told { (other : List ℕ) → F.told files.new other ≡ F.told files.old other }
     ensures counts { (other : List ℕ) → F.faults files.old other ≤ F.faults files.new other }
-    ensures plans { PlansUnder frame.now (F.told files.old) (F.faults files.old) (F.faults files.new) (option_map (λ name. name.now) name.entry) result }
+    ensures plans { PlansUnder frame.now (F.told files.old) (F.faults files.old) (F.faults files.new)
+        (option_map (λ name. name.now) name.entry) result }
     ensures planned { IfOk result (IsPlanned frame.now) }
 {
     match name {

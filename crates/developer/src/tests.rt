@@ -356,7 +356,8 @@ fn with_stream(alloc: Global, stream: &[u8]) -> Result<TestFrame, AllocError> {
         .with_strip(alloc, stream)
 }
 
-/// A stream of 4 lines, 2 samples a line and 2 components, which spells 4660 sixteen times: the code word 0 is for category
+/// A stream of 4 lines, 2 samples a line and 2 components, which spells 4660 sixteen times: the code word 0 is for
+/// category
 /// 0, and 10 for category 15.
 fn stream_of_two_components() -> &'static [u8] {
     b"\xFF\xD8\xFF\xC3\x00\x0E\x10\x00\x04\x00\x02\x02\x01\x11\x00\x02\x11\x00\

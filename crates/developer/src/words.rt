@@ -3,7 +3,7 @@
 ghost use Rattle.std.specs.Prelude.{◌≡◌, ◌^◌, ◌≤◌, ◌%◌, IfOk, IfSome, map, option_map, string_bytes};
 ghost use Rattle.clap.specs.Words.{app_of};
 ghost use Rattle.developer.specs.CommandLine.{named_words, rawdev};
-ghost use Rattle.developer.specs.Shown.{named_view, options_view};
+ghost use Rattle.developer.specs.inner.Shown.{named_view, options_view};
 ghost use Rattle.developer.specs.Words.{budget_of, cell_of, options};
 
 use crate::options::Options;

@@ -1,9 +1,10 @@
 //! Writing to the sink, and counting what was written.
 
-ghost use Rattle.std.specs.Prelude.{◌≡◌, ℕ, ◌+◌, ◌*◌, ◌^◌, ◌<◌, ◌≤◌, List, [], ◌++◌, length, Ok, Err, IfOk, IfErr, OnOk};
+ghost use Rattle.std.specs.Prelude.{◌≡◌, ℕ, ◌+◌, ◌*◌, ◌^◌, ◌<◌, ◌≤◌, List, [], ◌++◌, length, Ok, Err, IfOk, IfErr};
+ghost use Rattle.std.specs.Prelude.{OnOk};
 ghost use Rattle.image_out.specs.Image.{pixels_of};
-ghost use Rattle.developer.specs.Pieces.{InPieces};
-ghost use Rattle.developer.specs.Writes.{Writes, by_write, stopped};
+ghost use Rattle.developer.specs.inner.Pieces.{InPieces};
+ghost use Rattle.developer.specs.inner.Writes.{Writes, by_write, stopped};
 
 use dev_settings::Format;
 use image_out::Piece;
@@ -27,7 +28,7 @@ pub(crate) struct Stop {
 }
 
 impl From<WriteFault> for Stop {
-    ghost use Rattle.developer.specs.Writes.{by_write};
+    ghost use Rattle.developer.specs.inner.Writes.{by_write};
 
     ghost from_gives = { λ fault stop. stop ≡ by_write fault };
 
@@ -50,7 +51,7 @@ impl From<AllocError> for Cause {
 }
 
 impl From<AllocError> for Stop {
-    ghost use Rattle.developer.specs.Writes.{no_memory};
+    ghost use Rattle.developer.specs.inner.Writes.{no_memory};
 
     ghost from_gives = { λ _ stop. stop ≡ no_memory };
 
@@ -84,7 +85,8 @@ pub(crate) fn write_piece<O: Sink>(
     out: &mut O,
 ) -> Result<u64, WriteFault>
     requires { written < 2 ^ 60 }
-    ensures writes { (first : _) (before : List ℕ) → Writes O.stands_for O.faults first out.old before (λ n. n) (Ok written)
+    ensures writes { (first : _) (before : List ℕ) → Writes O.stands_for O.faults first out.old before (λ n. n)
+        (Ok written)
         → Writes O.stands_for O.faults first out.new (before ++ piece.old) (λ n. n) (stopped result) }
     ensures emptied { OnOk result (piece.new ≡ []) }
     ensures number { IfOk result (λ total. total ≡ written + length piece.old) }
@@ -100,8 +102,8 @@ pub(crate) fn write_piece<O: Sink>(
     }
 }
 
-/// Appends rows of samples to a piece, `width` samples a row, and writes the piece where it is full. Before them `written`
-/// bytes were written. Gives the number of these and of those that it wrote.
+/// Appends rows of samples to a piece, `width` samples a row, and writes the piece where it is full. Before them
+/// `written` bytes were written. Gives the number of these and of those that it wrote.
 pub(crate) fn write_samples<O: Sink>(
     samples: &[u16],
     width: usize,
@@ -115,11 +117,14 @@ pub(crate) fn write_samples<O: Sink>(
     requires room { length piece.old < 65536 }
     requires few { written + length piece.old + 2 * length samples.now < 2 ^ 60 }
     ensures pieces { (first : _) (all : List ℕ) → InPieces O.stands_for O.faults first out.old all piece.old written
-        → IfOk result (λ total. InPieces O.stands_for O.faults first out.new (all ++ pixels_of format samples.now) piece.new total) }
+        → IfOk result (λ total. InPieces O.stands_for O.faults first out.new (all ++ pixels_of format samples.now)
+        piece.new total) }
     ensures stops { (first : _) (all : List ℕ) → InPieces O.stands_for O.faults first out.old all piece.old written
-        → IfErr result (λ fault. Writes {T = ℕ} O.stands_for O.faults first out.new (all ++ pixels_of format samples.now) (λ n. n) (Err (by_write fault))) }
+        → IfErr result (λ fault. Writes {T = ℕ} O.stands_for O.faults first out.new (all
+        ++ pixels_of format samples.now) (λ n. n) (Err (by_write fault))) }
     ensures room { OnOk result (length piece.new < 65536) }
-    ensures number { IfOk result (λ total. total + length piece.new ≡ written + length piece.old + 2 * length samples.now) }
+    ensures number { IfOk result (λ total. total + length piece.new ≡ written + length piece.old + 2 * length
+        samples.now) }
 {
     let mut written = written;
     let mut rest = samples;

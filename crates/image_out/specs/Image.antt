@@ -1,5 +1,5 @@
--- Images as bytes: the binary portable pixmap (Netpbm's PPM, `P6`), the tag image file (TIFF 6.0), and this project's own
--- reply line.
+-- Images as bytes: the binary portable pixmap (Netpbm's PPM, `P6`), the tag image file (TIFF 6.0), and this project's
+-- own reply line.
 use Rattle.std.specs.Prelude.{ℕ, List, ◌++◌, codes, decimal}
 use Rattle.std.specs.Int.{to_be_bytes, to_le_bytes, w16}
 use Rattle.std.specs.List.{flat_map}

@@ -1,3 +1,2 @@
 pub mod Image
-pub mod ImageLaws
 pub mod Tiff

@@ -59,11 +59,11 @@ pub fn reply_head(n: u64, out: &mut [u8; 32]) -> usize
     put(&reply_line(n), out)
 }
 
-/// Writes a line to the front of the array, and gives its length.
+/// Writes a line to the start of the array, and gives its length.
 fn put(line: &Line, out: &mut [u8; 32]) -> usize
     requires { length line.now ≤ 32 }
     ensures used { result ≡ length line.now }
-    ensures front { take result out.new ≡ line.now }
+    ensures prefix { take result out.new ≡ line.now }
     ensures rest { drop result out.new ≡ drop result out.old }
 {
     let bytes = line.as_bytes();

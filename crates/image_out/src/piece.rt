@@ -37,6 +37,10 @@ impl Model for Piece {
 
 impl Piece {
     /// A piece with no bytes.
+    ///
+    /// # Errors
+    ///
+    /// `AllocError` where there is no memory.
     pub fn new(alloc: Global) -> Result<Self, AllocError>
         ensures { IfOk result (λ piece. piece ≡ []) }
     {

@@ -10,11 +10,13 @@ use std::marker::Model;
 /// How many bytes the head of a tag image file has.
 pub const TIFF_HEAD: usize = 180;
 
-/// The types of numbers.
+/// The type of numbers of 16 bits.
 const SHORT: u16 = 3;
 
+/// The type of numbers of 32 bits.
 const LONG: u16 = 4;
 
+/// The type of pairs of such numbers, a numerator and a denominator.
 const RATIONAL: u16 = 5;
 
 /// An entry of the directory: its number is its value, or the offset at which its value stands.

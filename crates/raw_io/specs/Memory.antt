@@ -1,5 +1,6 @@
 -- Files, sources and sinks in memory, as contracts see them. All of it is this project's own.
-use Rattle.std.specs.Prelude.{ℕ, suc, ◌+◌, ◌-◌, ◌^◌, ◌==◌, min, Bool, if◌then◌else◌, List, [], ◌∷◌, ◌++◌, drop, Option, None, Some, option_map}
+use Rattle.std.specs.Prelude.{ℕ, ◌+◌, ◌-◌, ◌^◌, ◌==◌, min, Bool, if◌then◌else◌, List, [], ◌∷◌, ◌++◌, drop}
+use Rattle.std.specs.Prelude.{Option, None, Some, option_map}
 use Rattle.std.specs.List.{list_any}
 use Rattle.std.specs.Option.{option_map_or}
 use Rattle.std.specs.Str.{bytes_eq}
@@ -52,11 +53,21 @@ pub record MemorySink : Type 0 where
 
 -- after a write of these bytes
 abbrev pub sink_after : List ℕ → MemorySink → MemorySink
-sink_after bytes sink = record { bytes = sink.bytes ++ bytes; capacity = sink.capacity; calls = called sink.calls; faults = sink.faults }
+sink_after bytes sink = record {
+  bytes = sink.bytes ++ bytes;
+  capacity = sink.capacity;
+  calls = called sink.calls;
+  faults = sink.faults;
+}
 
 -- after a write that failed
 abbrev pub sink_failed : MemorySink → MemorySink
-sink_failed sink = record { bytes = sink.bytes; capacity = sink.capacity; calls = called sink.calls; faults = one_more sink.faults }
+sink_failed sink = record {
+  bytes = sink.bytes;
+  capacity = sink.capacity;
+  calls = called sink.calls;
+  faults = one_more sink.faults;
+}
 
 -- a file in memory, and how often a read of its name failed
 pub record MemoryFile : Type 0 where
@@ -69,11 +80,6 @@ pub record MemoryFiles : Type 0 where
   pub files : List MemoryFile
   pub others : ℕ
   pub calls : CallNumbers
-
--- the place of the first file of this name, or the number of files
-abbrev pub place_of : List ℕ → List MemoryFile → ℕ
-place_of name [] = 0
-place_of name (file ∷ files) = if bytes_eq file.name name then 0 else suc (place_of name files)
 
 -- the file of this name, if it is there
 abbrev pub file_of : List ℕ → List MemoryFile → Option MemoryFile

@@ -10,21 +10,21 @@ abbrev pub SameCounts : (List ℕ → ℕ) → (List ℕ → ℕ) → Type 0
 SameCounts before now = (name : List ℕ) → now name ≡ before name
 
 -- The bytes begin with these.
-abbrev pub IsFrontOf : List ℕ → List ℕ → Type 0
-IsFrontOf front bytes = (rest : List ℕ) × (bytes ≡ front ++ rest)
+abbrev pub IsPrefixOf : List ℕ → List ℕ → Type 0
+IsPrefixOf before bytes = (rest : List ℕ) × (bytes ≡ before ++ rest)
 
--- A read from an offset put n bytes of the contents at the front of the buffer, and 0 only at their end.
+-- A read from an offset put n bytes of the contents at the beginning of the buffer, and 0 only at their end.
 pub record ReadsAt (contents : List ℕ) (at : ℕ) (buffer : List ℕ) (n : ℕ) : Type 0 where
   pub bytes : take n buffer ≡ take n (drop at contents)
   pub within : n ≤ length contents - at
   pub end : n ≡ 0 → length buffer ≡ 0 ⊎ length contents ≤ at
 
--- The told bytes that are left, after this prefix of them was taken. Nothing is claimed of what isn't told.
+-- This prefix of the told bytes was taken, and the rest of them is left. Nothing is claimed of what isn't told.
 abbrev pub Takes : Option (List ℕ) → Option (List ℕ) → List ℕ → Type 0
 Takes None left taken = ⊤
 Takes (Some before) left taken = (rest : List ℕ) × (before ≡ taken ++ rest) × (left ≡ Some rest)
 
--- A prefix of the told bytes that are left was taken, of no more than this many.
+-- A prefix of the told bytes was taken, of no more than this many.
 abbrev pub TakesAtMost : ℕ → Option (List ℕ) → Option (List ℕ) → Type 0
 TakesAtMost most before after = (taken : List ℕ) × Takes before after taken × (length taken ≤ most)
 

@@ -21,6 +21,10 @@ pub trait Opener {
     ghost told: { Self → List ℕ → Option (List ℕ) } = { λ _ _. None };
 
     /// Opens the file of this name.
+    ///
+    /// # Errors
+    ///
+    /// `Failed` where it can't be opened.
     fn open(&self, name: &str) -> Result<Self::File, Failed>
         ensures { IfOk result (λ file. IfSome (told self.now name.now)
             (Holds Self.File.Read.remaining Self.File.Seek.stream_position Self.File.Seek.stream_bytes file)) };

@@ -1,8 +1,10 @@
-// Files, sources and sinks in memory, whose calls fail where they are told to.
+// Sources and sinks in memory, whose calls fail where they are told to.
 
-ghost use Rattle.std.specs.Prelude.{◌≡◌, ℕ, ◌+◌, ◌^◌, ◌<◌, ◌≤◌, ◌||◌, nat_lt, min, List, [], ◌∷◌, ◌++◌, length, take, drop, Some, IfOk, OnOk, OnErr, IfSome, is_err};
+ghost use Rattle.std.specs.Prelude.{◌≡◌, ℕ, ◌+◌, ◌^◌, ◌<◌, ◌≤◌, ◌||◌, nat_lt, min, List, [], ◌∷◌, ◌++◌, length, take};
+ghost use Rattle.std.specs.Prelude.{drop, Some, IfOk, OnOk, OnErr, IfSome, is_err};
 ghost use Rattle.raw_io.specs.Outside.{Rises, Takes, Appends};
-ghost use Rattle.raw_io.specs.Memory.{CallNumbers, called, next_fails, with_failing, no_calls, MemorySource, source_after, source_failed, MemorySink, sink_after, sink_failed};
+ghost use Rattle.raw_io.specs.Memory.{CallNumbers, called, next_fails, with_failing, no_calls, MemorySource};
+ghost use Rattle.raw_io.specs.Memory.{source_after, source_failed, MemorySink, sink_after, sink_failed};
 
 use crate::{Failed, Sink, Source};
 use std::alloc::{AllocError, Global};
@@ -68,6 +70,10 @@ impl Model for MemSource {
 
 impl MemSource {
     /// A source that has these bytes left.
+    ///
+    /// # Errors
+    ///
+    /// `AllocError` where there is no memory.
     pub fn new(alloc: Global, bytes: &[u8]) -> Result<Self, AllocError>
         ensures { IfOk result (λ source. source ≡ record { left = bytes.now; calls = no_calls; faults = 0 }) }
     {
@@ -80,6 +86,10 @@ impl MemSource {
     }
 
     /// Lets the call of this number fail, counted from 1.
+    ///
+    /// # Errors
+    ///
+    /// `AllocError` where there is no memory; nothing has changed then.
     pub fn fail_at(&mut self, call: u64) -> Result<(), AllocError>
         ensures added { OnOk result (self.new ≡ record self.old { calls = with_failing call self.old.calls }) }
         ensures refused { OnErr result (self.new ≡ self.old) }
@@ -94,11 +104,16 @@ impl Source for MemSource {
     ghost faults = { λ s. s.faults };
 
     /// Takes as many bytes as there are left and `into` has room for.
+    ///
+    /// # Errors
+    ///
+    /// `Failed` where this read was told to fail.
     fn read(&mut self, into: &mut [u8]) -> Result<usize, Failed>
         ensures counts { self.old.faults ≤ self.new.faults }
         ensures within { IfOk result (λ n. n ≤ length into.old) }
         ensures taken { IfOk result (λ n. Takes (Some self.old.left) (Some self.new.left) (take n into.new)) }
-        ensures end { IfOk result (λ n. n ≡ 0 → 0 < length into.old → IfSome (Some self.old.left) (λ bytes. length bytes ≡ 0)) }
+        ensures end { IfOk result (λ n. n ≡ 0 → 0 < length into.old
+            → IfSome (Some self.old.left) (λ bytes. length bytes ≡ 0)) }
         ensures kept { OnErr result (Some self.new.left ≡ Some self.old.left) }
         ensures failed { OnErr result (Rises self.old.faults self.new.faults) }
         ensures fails { is_err result ≡ next_fails self.old.calls }
@@ -111,14 +126,14 @@ impl Source for MemSource {
             self.faults = self.faults.saturating_add(1);
             return Err(Failed);
         }
-        let count = copy_front(&self.bytes[self.taken..], into);
+        let count = copy_prefix(&self.bytes[self.taken..], into);
         self.taken += count;
         Ok(count)
     }
 }
 
 // Copies as many bytes as both have, and answers how many.
-pub(crate) fn copy_front(from: &[u8], into: &mut [u8]) -> usize
+pub(crate) fn copy_prefix(from: &[u8], into: &mut [u8]) -> usize
     ensures count { result ≡ min (length from.now) (length into.old) }
     ensures copied { into.new ≡ take result from.now ++ drop result into.old }
 {
@@ -127,7 +142,7 @@ pub(crate) fn copy_front(from: &[u8], into: &mut [u8]) -> usize
     count
 }
 
-/// A sink in memory, which can hold so many bytes.
+/// A sink in memory, which can hold a number of bytes that is told when it is made.
 #[derive(Debug, Drop)]
 pub struct MemSink {
     bytes: Vec<u8>,
@@ -149,8 +164,13 @@ impl Model for MemSink {
 
 impl MemSink {
     /// An empty sink, which takes the memory for so many bytes at once.
+    ///
+    /// # Errors
+    ///
+    /// `AllocError` where there is no memory.
     pub fn new(alloc: Global, capacity: usize) -> Result<Self, AllocError>
-        ensures { IfOk result (λ sink. sink ≡ record { bytes = []; capacity = capacity; calls = no_calls; faults = 0 }) }
+        ensures { IfOk result (λ sink.
+            sink ≡ record { bytes = []; capacity = capacity; calls = no_calls; faults = 0 }) }
     {
         Ok(MemSink {
             bytes: Vec::with_capacity(alloc, capacity)?,
@@ -168,6 +188,10 @@ impl MemSink {
     }
 
     /// Lets the call of this number fail, counted from 1.
+    ///
+    /// # Errors
+    ///
+    /// `AllocError` where there is no memory; nothing has changed then.
     pub fn fail_at(&mut self, call: u64) -> Result<(), AllocError>
         ensures added { OnOk result (self.new ≡ record self.old { calls = with_failing call self.old.calls }) }
         ensures refused { OnErr result (self.new ≡ self.old) }
@@ -181,7 +205,11 @@ impl Sink for MemSink {
 
     ghost faults = { λ s. s.faults };
 
-    /// Appends all of the bytes, or fails where they would pass the capacity.
+    /// Appends all of the bytes.
+    ///
+    /// # Errors
+    ///
+    /// `Failed` where this write was told to fail, and where the bytes would pass the capacity.
     fn write(&mut self, from: &[u8]) -> Result<usize, Failed>
         ensures counts { self.old.faults ≤ self.new.faults }
         ensures within { IfOk result (λ n. n ≤ length from.now) }
@@ -189,7 +217,8 @@ impl Sink for MemSink {
         ensures appended { IfOk result (λ n. Appends (λ s list. s.bytes ≡ list) self.old self.new (take n from.now)) }
         ensures kept { OnErr result ((list : List ℕ) → self.old.bytes ≡ list → self.new.bytes ≡ list) }
         ensures failed { OnErr result (Rises self.old.faults self.new.faults) }
-        ensures fails { is_err result ≡ (next_fails self.old.calls || nat_lt self.old.capacity (length self.old.bytes + length from.now)) }
+        ensures fails { is_err result
+            ≡ (next_fails self.old.calls || nat_lt self.old.capacity (length self.old.bytes + length from.now)) }
         ensures written { IfOk result (λ n. (n ≡ length from.now) × (self.new ≡ sink_after from.now self.old)) }
         ensures at_fault { OnErr result (self.new ≡ sink_failed self.old) }
     {

@@ -1,11 +1,15 @@
 // Files in memory, whose reads fail where they are told to.
 
-ghost use Rattle.std.specs.Prelude.{◌≡◌, ◌≢◌, ℕ, ◌-◌, ◌≤◌, ◌||◌, if◌then◌else◌, min, List, [], ◌++◌, length, take, drop, Option, Some, None, IfOk, OnOk, OnErr, IfSome, IsSome, is_err, is_none};
+ghost use Rattle.std.specs.Prelude.{◌≡◌, ◌≢◌, ℕ, ◌-◌, ◌≤◌, ◌||◌, if◌then◌else◌, min, List, [], ◌++◌, length, take};
+ghost use Rattle.std.specs.Prelude.{drop, Option, Some, None, IfOk, OnOk, OnErr, IfSome, IsSome, is_err, is_none};
 ghost use Rattle.std.specs.Str.{bytes_eq};
 ghost use Rattle.raw_io.specs.Outside.{Rises, ReadsAt};
-ghost use Rattle.raw_io.specs.Memory.{CallNumbers, called, one_more, next_fails, with_failing, no_calls, MemoryFile, MemoryFiles, place_of, file_of, with_file, contents_of, faults_of, with_contents, files_read, files_failed};
+ghost use Rattle.raw_io.specs.Memory.{CallNumbers, called, one_more, next_fails, with_failing, no_calls, MemoryFile};
+ghost use Rattle.raw_io.specs.Memory.{MemoryFiles, file_of, with_file, contents_of, faults_of, with_contents};
+ghost use Rattle.raw_io.specs.Memory.{files_read, files_failed};
+ghost use Rattle.raw_io.specs.inner.Places.{place_of};
 
-use crate::memory::{Calls, copy_front};
+use crate::memory::{Calls, copy_prefix};
 use crate::{Failed, Files};
 use std::alloc::{AllocError, Global};
 use std::marker::Model;
@@ -54,7 +58,11 @@ impl MemFile {
 
     fn count_fault(&mut self)
         ensures grows { self.old.faults ≤ self.new.faults }
-        ensures counted { self.new ≡ record { name = self.old.name; bytes = self.old.bytes; faults = one_more self.old.faults } }
+        ensures counted { self.new ≡ record {
+          name = self.old.name;
+          bytes = self.old.bytes;
+          faults = one_more self.old.faults;
+        } }
     {
         self.faults = self.faults.saturating_add(1);
     }
@@ -99,6 +107,10 @@ impl MemFiles {
     }
 
     /// Gives a name its contents, in the place of those that it had. It keeps its count of faults.
+    ///
+    /// # Errors
+    ///
+    /// `AllocError` where there is no memory; nothing has changed then.
     pub fn add(&mut self, name: &str, bytes: &[u8]) -> Result<(), AllocError>
         ensures added { OnOk result (self.new ≡ with_contents name.now bytes.now self.old) }
         ensures contents { OnOk result ((other : List ℕ) → contents_of self.new other
@@ -120,6 +132,10 @@ impl MemFiles {
     }
 
     /// Lets the read of this number fail, counted from 1.
+    ///
+    /// # Errors
+    ///
+    /// `AllocError` where there is no memory; nothing has changed then.
     pub fn fail_at(&mut self, call: u64) -> Result<(), AllocError>
         ensures added { OnOk result (self.new ≡ record self.old { calls = with_failing call self.old.calls }) }
         ensures refused { OnErr result (self.new ≡ self.old) }
@@ -134,11 +150,16 @@ impl Files for MemFiles {
     ghost faults = { faults_of };
 
     /// Reads as many bytes as there are from the offset and `into` has room for.
+    ///
+    /// # Errors
+    ///
+    /// `Failed` where this read was told to fail, and where the name isn't there.
     fn read(&mut self, name: &str, at: u64, into: &mut [u8]) -> Result<usize, Failed>
         ensures contents { (other : List ℕ) → contents_of self.new other ≡ contents_of self.old other }
         ensures counts { (other : List ℕ) → faults_of self.old other ≤ faults_of self.new other }
         ensures within { IfOk result (λ n. n ≤ length into.old) }
-        ensures bytes { IfOk result (λ n. IfSome (contents_of self.old name.now) (λ bytes. ReadsAt bytes at into.new n)) }
+        ensures bytes { IfOk result
+            (λ n. IfSome (contents_of self.old name.now) (λ bytes. ReadsAt bytes at into.new n)) }
         ensures failed { OnErr result (Rises (faults_of self.old name.now) (faults_of self.new name.now)) }
         ensures fails { is_err result ≡ (next_fails self.old.calls || is_none (contents_of self.old name.now)) }
         ensures read { OnOk result (self.new ≡ files_read self.old) }
@@ -168,7 +189,7 @@ fn copy_from(bytes: &[u8], at: u64, into: &mut [u8]) -> usize
     if at >= bytes.len() as u64 {
         return 0;
     }
-    copy_front(&bytes[at as usize..], into)
+    copy_prefix(&bytes[at as usize..], into)
 }
 
 #[cfg(test)]

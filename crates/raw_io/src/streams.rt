@@ -86,6 +86,10 @@ impl<W: Write> StdSink<W> {
     }
 
     /// Flushes what a failed flush has left. After the last write this tells whether all bytes went out.
+    ///
+    /// # Errors
+    ///
+    /// `Failed` where the flush fails again.
     pub fn flush(&mut self) -> Result<(), Failed>
         ensures kept { Keeps self.old.held self.new.held }
         ensures waits { is_err result ≡ self.new.waits }

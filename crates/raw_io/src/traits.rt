@@ -3,9 +3,20 @@
 ghost use Rattle.std.specs.Prelude.{◌≡◌, ℕ, ◌<◌, ◌≤◌, List, [], length, take, Option, IfOk, OnOk, OnErr, IfSome};
 ghost use Rattle.raw_io.specs.Outside.{Rises, SameCounts, ReadsAt, Takes, Appends};
 
+use std::error::Error;
+use std::fmt;
+
 /// The one answer of an outside call that failed.
 #[derive(Clone, Copy, Debug, PartialEq, Eq)]
 pub struct Failed;
+
+impl fmt::Display for Failed {
+    fn fmt<W: fmt::Write>(&self, f: &mut fmt::Formatter<W>) -> fmt::Result {
+        write!(f, "a read or a write failed")
+    }
+}
+
+impl Error for Failed {}
 
 /// Files by name, which are read from an offset.
 pub trait Files {
@@ -15,8 +26,12 @@ pub trait Files {
     /// How often a read of a name has failed. Several names may share one count. A read that went well leaves each.
     ghost faults: { Self → List ℕ → ℕ };
 
-    /// Reads from an offset into the front of `into`, and answers how many bytes; 0 for a slice that isn't empty only
-    /// at the end of the contents.
+    /// Reads from an offset into the beginning of `into`, and answers how many bytes; 0 for a slice that isn't empty
+    /// only at the end of the contents.
+    ///
+    /// # Errors
+    ///
+    /// `Failed` where the file couldn't be read. The fault is counted for the name.
     fn read(&mut self, name: &str, at: u64, into: &mut [u8]) -> Result<usize, Failed>
         ensures contents { (other : List ℕ) → told self.new other ≡ told self.old other }
         ensures counts { (other : List ℕ) → faults self.old other ≤ faults self.new other }
@@ -34,8 +49,12 @@ pub trait Source {
     /// How often a read has failed. A read that went well leaves it.
     ghost faults: { Self → ℕ };
 
-    /// Takes a prefix of them into the front of `into`, and answers its length; 0 for a slice that isn't empty only
-    /// where none are left. A read that failed took nothing.
+    /// Takes a prefix of them into the beginning of `into`, and answers its length; 0 for a slice that isn't empty only
+    /// where none are left.
+    ///
+    /// # Errors
+    ///
+    /// `Failed` where nothing could be read. Nothing was taken then, and the fault is counted.
     fn read(&mut self, into: &mut [u8]) -> Result<usize, Failed>
         ensures counts { faults self.old ≤ faults self.new }
         ensures no_fault { OnOk result (faults self.new ≡ faults self.old) }
@@ -55,8 +74,11 @@ pub trait Sink {
     /// How often a write has failed. A write that went well leaves it.
     ghost faults: { Self → ℕ };
 
-    /// Appends a prefix of `from`, and answers its length; not 0 for a slice that isn't empty. A write that
-    /// failed appended nothing.
+    /// Appends a prefix of `from`, and answers its length; not 0 for a slice that isn't empty.
+    ///
+    /// # Errors
+    ///
+    /// `Failed` where nothing could be written. Nothing was appended then, and the fault is counted.
     fn write(&mut self, from: &[u8]) -> Result<usize, Failed>
         ensures counts { faults self.old ≤ faults self.new }
         ensures no_fault { OnOk result (faults self.new ≡ faults self.old) }

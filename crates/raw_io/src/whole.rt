@@ -1,10 +1,13 @@
 // Whole reads and writes, over many calls of the outside.
 
-ghost use Rattle.std.specs.Prelude.{◌≡◌, ℕ, ◌+◌, ◌^◌, ◌<◌, ◌≤◌, List, [], length, take, Some, IfOk, IfErr, OnOk, OnErr, IfSome, IsErrOf, vec_len};
+ghost use Rattle.std.specs.Prelude.{◌≡◌, ℕ, ◌+◌, ◌^◌, ◌<◌, ◌≤◌, List, [], length, take, Some, vec_len};
+ghost use Rattle.std.specs.Prelude.{IfOk, IfErr, OnOk, OnErr, IfSome, IsErrOf};
 ghost use Rattle.raw_io.specs.Outside.{Rises, SameCounts, Takes, TakesAtMost, Appends};
 
 use crate::{Failed, Files, Sink, Source};
 use std::alloc::{AllocError, Global};
+use std::error::Error;
+use std::fmt;
 
 // How many bytes one call is asked for at most.
 const BUFFER: usize = 1 << 18;
@@ -19,6 +22,18 @@ pub enum ReadFault {
     /// There is no memory for them.
     Memory,
 }
+
+impl fmt::Display for ReadFault {
+    fn fmt<W: fmt::Write>(&self, f: &mut fmt::Formatter<W>) -> fmt::Result {
+        match self {
+            ReadFault::Failed => write!(f, "a read failed"),
+            ReadFault::TooLong => write!(f, "more bytes than the limit allows"),
+            ReadFault::Memory => write!(f, "out of memory"),
+        }
+    }
+}
+
+impl Error for ReadFault {}
 
 impl From<Failed> for ReadFault {
     ghost use Rattle.raw_io.specs.declared.whole.ReadFault.TheVariants.{Failed as failed};
@@ -47,6 +62,15 @@ pub struct WriteFault {
     pub written: u64,
 }
 
+impl fmt::Display for WriteFault {
+    fn fmt<W: fmt::Write>(&self, f: &mut fmt::Formatter<W>) -> fmt::Result {
+        let written = self.written;
+        write!(f, "a write failed after {written} bytes")
+    }
+}
+
+impl Error for WriteFault {}
+
 impl WriteFault {
     fn after(written: usize) -> Self
         ensures { result ≡ record { written = written } }
@@ -58,6 +82,11 @@ impl WriteFault {
 }
 
 /// The whole contents under a name, of at most `limit` bytes. A read has failed only at the answer `Failed`.
+///
+/// # Errors
+///
+/// `Failed` where a read failed, `TooLong` where there are more bytes than `limit`, `Memory` where there is no memory
+/// for them.
 pub fn read_all<F: Files>(
     alloc: Global,
     files: &mut F,
@@ -71,12 +100,13 @@ pub fn read_all<F: Files>(
     ensures whole { IfOk result (λ bytes. IfSome (F.told files.old name.now) (λ contents. bytes.items ≡ contents)) }
     ensures too_long { IsErrOf result ReadFault.TooLong
         → IfSome (F.told files.old name.now) (λ contents. limit < length contents) }
-    ensures too_long_no_fault { IsErrOf result ReadFault.TooLong → SameCounts (F.faults files.old) (F.faults files.new) }
+    ensures too_long_no_fault { IsErrOf result ReadFault.TooLong
+        → SameCounts (F.faults files.old) (F.faults files.new) }
     ensures memory_no_fault { IsErrOf result ReadFault.Memory → SameCounts (F.faults files.old) (F.faults files.new) }
     ensures failed { IsErrOf result ReadFault.Failed
         → Rises (F.faults files.old name.now) (F.faults files.new name.now) }
 {
-    let mut buffer = working_buffer(alloc)?;
+    let mut buffer = working_buffer(alloc, limit)?;
     let mut whole = Vec::new(alloc);
     read_into(files, name, limit, &mut buffer, &mut whole)?;
     Ok(whole)
@@ -84,6 +114,11 @@ pub fn read_all<F: Files>(
 
 /// Takes the bytes of a source into an empty vector, until its end, a failed read or one byte past the limit. A read
 /// has failed only at the answer `Failed`.
+///
+/// # Errors
+///
+/// `Failed` where a read failed, `TooLong` where there are more bytes than `limit`: what was taken before stands in
+/// `into`. `Memory` where there is no memory for them.
 pub fn read_source<C: Source>(
     source: &mut C,
     into: &mut Vec<u8>,
@@ -106,7 +141,7 @@ pub fn read_source<C: Source>(
     ensures memory { IsErrOf result ReadFault.Memory
         → TakesAtMost (limit + 1) (C.left source.old) (C.left source.new) }
 {
-    let mut buffer = working_buffer(*into.allocator())?;
+    let mut buffer = working_buffer(*into.allocator(), limit)?;
     take_into(source, limit, &mut buffer, into)
 }
 
@@ -127,7 +162,8 @@ fn read_into<F: Files>(
     ensures whole { OnOk result (IfSome (F.told files.old name.now) (λ contents. whole.new.items ≡ contents)) }
     ensures too_long { IsErrOf result ReadFault.TooLong
         → IfSome (F.told files.old name.now) (λ contents. limit < length contents) }
-    ensures too_long_no_fault { IsErrOf result ReadFault.TooLong → SameCounts (F.faults files.old) (F.faults files.new) }
+    ensures too_long_no_fault { IsErrOf result ReadFault.TooLong
+        → SameCounts (F.faults files.old) (F.faults files.new) }
     ensures memory_no_fault { IsErrOf result ReadFault.Memory → SameCounts (F.faults files.old) (F.faults files.new) }
     ensures failed { IsErrOf result ReadFault.Failed
         → Rises (F.faults files.old name.now) (F.faults files.new name.now) }
@@ -186,10 +222,11 @@ fn take_into<C: Source>(
     }
 }
 
-fn working_buffer(alloc: Global) -> Result<Vec<u8>, AllocError>
+// A buffer for reads of up to `limit` bytes: as long as the largest piece that they ask for.
+fn working_buffer(alloc: Global, limit: u64) -> Result<Vec<u8>, AllocError>
     ensures { IfOk result (λ buffer. 0 < vec_len buffer) }
 {
-    vec![in alloc; 0u8; BUFFER]
+    vec![in alloc; 0u8; piece_len(limit, BUFFER)]
 }
 
 // How many bytes to ask for at once, where `room` are allowed: enough to see that there are more.
@@ -207,6 +244,10 @@ fn piece_len(room: u64, most: usize) -> usize
 }
 
 /// Writes all of the bytes.
+///
+/// # Errors
+///
+/// `WriteFault` where a write failed, with the number of bytes that were written before it.
 pub fn write_all<O: Sink>(sink: &mut O, bytes: &[u8]) -> Result<(), WriteFault>
     ensures counts { O.faults sink.old ≤ O.faults sink.new }
     ensures no_fault { OnOk result (O.faults sink.new ≡ O.faults sink.old) }

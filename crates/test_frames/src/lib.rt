@@ -1,5 +1,5 @@
-//! Frames for tests, built entry by entry: the flat frame, the bright-red frame, and either with changes, in either byte
-//! order. The crate is for tests alone: its calls are safe, and its own tests say what they give.
+//! Frames for tests, built entry by entry: the flat frame, the bright-red frame, and either with changes, in either
+//! byte order. The crate is for tests alone: its calls are safe, and its own tests say what they give.
 #![tactic(auto)]
 
 use lists::Items;
@@ -30,11 +30,19 @@ pub struct TestFrame {
 }
 
 /// The flat frame: 4 by 4 samples of 16 bits, each 4660.
+///
+/// # Errors
+///
+/// `AllocError` where there is no memory.
 pub fn flat(alloc: Global) -> Result<TestFrame, AllocError> {
     plain(alloc, 4, 4, &[4660; 16])
 }
 
 /// The bright-red frame: 8 by 8 samples of 16 bits, 1600 at the red site of row 4 and column 4, and 0 elsewhere.
+///
+/// # Errors
+///
+/// `AllocError` where there is no memory.
 pub fn bright_red(alloc: Global) -> Result<TestFrame, AllocError> {
     let mut samples = [0; 64];
     samples[4 * 8 + 4] = 1600;
@@ -42,6 +50,10 @@ pub fn bright_red(alloc: Global) -> Result<TestFrame, AllocError> {
 }
 
 /// A frame of the plain form, with these samples in one strip: no compression, 16 bits, red at the top left.
+///
+/// # Errors
+///
+/// `AllocError` where there is no memory, or where 32 bits can't hold the number of the strip's bytes.
 pub fn plain(
     alloc: Global,
     cols: u16,
@@ -66,7 +78,7 @@ pub fn plain(
     })
 }
 
-/// The entry of the strip's bytes, for so many samples of a size.
+/// The entry of the strip's byte count, for so many samples of a size.
 fn byte_count(alloc: Global, size: u32, samples: usize) -> Result<Field, AllocError> {
     let samples = u32::try_from(samples).map_err(|_| AllocError)?;
     let count = samples.checked_mul(size).ok_or(AllocError)?;
@@ -75,6 +87,10 @@ fn byte_count(alloc: Global, size: u32, samples: usize) -> Result<Field, AllocEr
 
 impl TestFrame {
     /// The same with an entry in place of the raw directory's first of that tag, or, where it has none, at its end.
+    ///
+    /// # Errors
+    ///
+    /// `AllocError` where there is no memory.
     pub fn with(mut self, field: Field) -> Result<TestFrame, AllocError> {
         match self.fields.iter().position(|other| other.tag == field.tag) {
             Some(at) => self.fields[at] = field,
@@ -84,6 +100,10 @@ impl TestFrame {
     }
 
     /// The same with a further entry at the raw directory's end, also where it has one of that tag.
+    ///
+    /// # Errors
+    ///
+    /// `AllocError` where there is no memory.
     pub fn and(mut self, field: Field) -> Result<TestFrame, AllocError> {
         self.fields.push(field)?;
         Ok(self)
@@ -96,18 +116,30 @@ impl TestFrame {
     }
 
     /// The same with other samples in its strip, whose bytes are counted anew.
+    ///
+    /// # Errors
+    ///
+    /// `AllocError` where there is no memory, or where 32 bits can't hold the number of the strip's bytes.
     pub fn with_samples(mut self, alloc: Global, samples: &[u16]) -> Result<TestFrame, AllocError> {
         self.strip = Strip::Samples(Items::from_slice(alloc, samples)?);
         self.with(byte_count(alloc, 2, samples.len())?)
     }
 
     /// The same with other bytes in its strip, which are counted anew and stand as they are in either byte order.
+    ///
+    /// # Errors
+    ///
+    /// `AllocError` where there is no memory, or where 32 bits can't hold the number of the strip's bytes.
     pub fn with_strip(mut self, alloc: Global, bytes: &[u8]) -> Result<TestFrame, AllocError> {
         self.strip = Strip::Bytes(Items::from_slice(alloc, bytes)?);
         self.with(byte_count(alloc, 1, bytes.len())?)
     }
 
     /// The same with its raw directory in a SubIFD: directory 0 has the version, and is marked as a reduced image.
+    ///
+    /// # Errors
+    ///
+    /// `AllocError` where there is no memory.
     pub fn in_sub_directory(mut self, alloc: Global) -> Result<TestFrame, AllocError> {
         let first = vec![in alloc;
             Field::longs(alloc, 254, &[1])?,
@@ -119,6 +151,10 @@ impl TestFrame {
     }
 
     /// The bytes of the file.
+    ///
+    /// # Errors
+    ///
+    /// `AllocError` where there is no memory, or where the file is too large for TIFF's numbers.
     pub fn bytes(self, alloc: Global, order: Order) -> Result<Vec<u8>, AllocError> {
         let TestFrame {
             outer,

@@ -7,10 +7,10 @@ ghost use Rattle.tiff_write.specs.Fields.{halves_of, signed_halves_of};
 use lists::Items;
 use std::alloc::{AllocError, Global};
 
-/// A place in the file, whose offset is to be a value.
+/// A place in the file, whose offset is written as a value.
 #[derive(Clone, Copy, Debug, PartialEq, Eq)]
 pub enum Place {
-    /// That offset.
+    /// The place at this offset.
     File(u32),
     /// So many bytes behind the data's first one.
     Data(u32),
@@ -18,9 +18,10 @@ pub enum Place {
     Directory(usize),
 }
 
-/// What an entry tells. The numbers are written in the file's byte order.
+/// The value of an entry. Numbers are written in the file's byte order.
 #[derive(Debug, Drop, PartialEq, Eq)]
 pub enum Value {
+    /// Bytes as they are.
     Bytes(Items<u8>),
     /// Numbers of 16 bits.
     Shorts(Items<u16>),
@@ -41,7 +42,7 @@ pub struct Field {
     pub value: Value,
 }
 
-/// The numbers of types (TIFF 6.0, section 2, "Types").
+// The numbers of the types (TIFF 6.0, section 2, "Types").
 const BYTE: u16 = 1;
 
 const SHORT: u16 = 3;
@@ -52,12 +53,20 @@ const RATIONAL: u16 = 5;
 
 const SRATIONAL: u16 = 10;
 
-/// Each of these makes an entry with as many values as there are. `AllocError` where there is no memory, or where a
-/// count of 32 bits can't name so many.
+/// Each of these makes an entry whose count is the number of its values.
 impl Field {
     /// An entry of the type BYTE.
+    ///
+    /// # Errors
+    ///
+    /// `AllocError` where there is no memory, or where a count of 32 bits can't hold the number of values.
     pub fn bytes(alloc: Global, tag: u16, bytes: &[u8]) -> Result<Field, AllocError>
-        ensures { IfOk result (λ field. field ≡ record { tag = tag; kind = 1; count = length bytes.now; value = Value.Bytes bytes.now }) }
+        ensures { IfOk result (λ field. field ≡ record {
+          tag = tag;
+          kind = 1;
+          count = length bytes.now;
+          value = Value.Bytes bytes.now;
+        }) }
     {
         Ok(Field {
             tag,
@@ -68,8 +77,17 @@ impl Field {
     }
 
     /// An entry of the type SHORT.
+    ///
+    /// # Errors
+    ///
+    /// `AllocError` where there is no memory, or where a count of 32 bits can't hold the number of values.
     pub fn shorts(alloc: Global, tag: u16, numbers: &[u16]) -> Result<Field, AllocError>
-        ensures { IfOk result (λ field. field ≡ record { tag = tag; kind = 3; count = length numbers.now; value = Value.Shorts numbers.now }) }
+        ensures { IfOk result (λ field. field ≡ record {
+          tag = tag;
+          kind = 3;
+          count = length numbers.now;
+          value = Value.Shorts numbers.now;
+        }) }
     {
         Ok(Field {
             tag,
@@ -80,8 +98,17 @@ impl Field {
     }
 
     /// An entry of the type LONG.
+    ///
+    /// # Errors
+    ///
+    /// `AllocError` where there is no memory, or where a count of 32 bits can't hold the number of values.
     pub fn longs(alloc: Global, tag: u16, numbers: &[u32]) -> Result<Field, AllocError>
-        ensures { IfOk result (λ field. field ≡ record { tag = tag; kind = 4; count = length numbers.now; value = Value.Longs numbers.now }) }
+        ensures { IfOk result (λ field. field ≡ record {
+          tag = tag;
+          kind = 4;
+          count = length numbers.now;
+          value = Value.Longs numbers.now;
+        }) }
     {
         Ok(Field {
             tag,
@@ -92,8 +119,17 @@ impl Field {
     }
 
     /// An entry of the type LONG, whose numbers are the offsets of places.
+    ///
+    /// # Errors
+    ///
+    /// `AllocError` where there is no memory, or where a count of 32 bits can't hold the number of values.
     pub fn places(alloc: Global, tag: u16, places: &[Place]) -> Result<Field, AllocError>
-        ensures { IfOk result (λ field. field ≡ record { tag = tag; kind = 4; count = length places.now; value = Value.Places places.now }) }
+        ensures { IfOk result (λ field. field ≡ record {
+          tag = tag;
+          kind = 4;
+          count = length places.now;
+          value = Value.Places places.now;
+        }) }
     {
         Ok(Field {
             tag,
@@ -104,8 +140,17 @@ impl Field {
     }
 
     /// An entry of the type RATIONAL: numerators and denominators.
+    ///
+    /// # Errors
+    ///
+    /// `AllocError` where there is no memory, or where a count of 32 bits can't hold the number of values.
     pub fn rationals(alloc: Global, tag: u16, fractions: &[(u32, u32)]) -> Result<Field, AllocError>
-        ensures { IfOk result (λ field. field ≡ record { tag = tag; kind = 5; count = length fractions.now; value = Value.Longs (flat_map halves_of fractions.now) }) }
+        ensures { IfOk result (λ field. field ≡ record {
+          tag = tag;
+          kind = 5;
+          count = length fractions.now;
+          value = Value.Longs (flat_map halves_of fractions.now);
+        }) }
     {
         let mut halves = Vec::new(alloc);
         for fraction in fractions {
@@ -121,12 +166,21 @@ impl Field {
     }
 
     /// An entry of the type SRATIONAL: numerators and denominators.
+    ///
+    /// # Errors
+    ///
+    /// `AllocError` where there is no memory, or where a count of 32 bits can't hold the number of values.
     pub fn signed_rationals(
         alloc: Global,
         tag: u16,
         fractions: &[(i32, i32)],
     ) -> Result<Field, AllocError>
-        ensures { IfOk result (λ field. field ≡ record { tag = tag; kind = 10; count = length fractions.now; value = Value.Longs (flat_map signed_halves_of fractions.now) }) }
+        ensures { IfOk result (λ field. field ≡ record {
+          tag = tag;
+          kind = 10;
+          count = length fractions.now;
+          value = Value.Longs (flat_map signed_halves_of fractions.now);
+        }) }
     {
         let mut halves = Vec::new(alloc);
         for fraction in fractions {
@@ -142,7 +196,7 @@ impl Field {
     }
 }
 
-/// How many values there are, as an entry tells it.
+/// The count of an entry that has so many values; `AllocError` where 32 bits can't hold it.
 fn count_of(len: usize) -> Result<u32, AllocError>
     ensures { IfOk result (λ count. count ≡ len) }
 {

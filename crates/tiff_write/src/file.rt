@@ -3,7 +3,9 @@
 ghost use Rattle.std.specs.Prelude.{◌≡◌, ◌+◌, ◌*◌, ◌++◌, length, IfOk, OnOk, ◌≤◌, replicate, sum_by};
 ghost use Rattle.std.specs.List.{flat_map};
 ghost use Rattle.tiff_write.specs.Fields.{number_bytes, offset_of, value_bytes, value_size};
-ghost use Rattle.tiff_write.specs.Files.{directories_bytes, directory_bytes, directory_size, entries_bytes, entry_bytes, far_bytes, far_size, file_bytes, header_bytes, layout_of, slot_bytes};
+ghost use Rattle.tiff_write.specs.Files.{directories_bytes, directory_bytes, directory_size};
+ghost use Rattle.tiff_write.specs.Files.{entries_bytes, entry_bytes};
+ghost use Rattle.tiff_write.specs.Files.{far_bytes, far_size, file_bytes, header_bytes, layout_of, slot_bytes};
 
 use crate::field::{Field, Place, Value};
 use lists::Items;
@@ -67,7 +69,7 @@ fn append_longs(order: Order, numbers: &[u32], out: &mut Vec<u8>) -> Result<(), 
 }
 
 impl Layout {
-    /// The offset of a place. `AllocError` where 32 bits can't name it.
+    /// The offset of a place; `AllocError` where 32 bits can't hold it.
     fn offset(&self, place: Place) -> Result<u32, AllocError>
         ensures { IfOk result (λ at. at ≡ offset_of self.now place) }
     {
@@ -84,7 +86,8 @@ impl Layout {
         places: &[Place],
         out: &mut Vec<u8>,
     ) -> Result<(), AllocError>
-        ensures { OnOk result (out.new.items ≡ out.old.items ++ flat_map (λ place. number_bytes order 4 (offset_of self.now place)) places.now) }
+        ensures { OnOk result (out.new.items ≡ out.old.items
+            ++ flat_map (λ place. number_bytes order 4 (offset_of self.now place)) places.now) }
     {
         for place in places {
             let at = self.offset(*place)?;
@@ -106,7 +109,7 @@ impl Layout {
     }
 }
 
-/// How many bytes a value has. `AllocError` where a number of 32 bits can't tell it.
+/// How many bytes a value has; `AllocError` where 32 bits can't hold that number.
 #[tactic(auto, unfolding(crate::specs::Fields::value_size))]
 fn value_size(value: &Value) -> Result<u32, AllocError>
     ensures { IfOk result (λ size. size ≡ value_size value.now) }
@@ -119,7 +122,7 @@ fn value_size(value: &Value) -> Result<u32, AllocError>
     }
 }
 
-/// The bytes of so many numbers of a size. `AllocError` where a number of 32 bits can't tell it.
+/// How many bytes so many numbers of a size have; `AllocError` where 32 bits can't hold that number.
 fn bytes_of(size: u32, count: usize) -> Result<u32, AllocError>
     ensures { IfOk result (λ bytes. bytes ≡ size * count) }
 {
@@ -127,7 +130,7 @@ fn bytes_of(size: u32, count: usize) -> Result<u32, AllocError>
     size.checked_mul(count).ok_or(AllocError)
 }
 
-/// The offset that is so many bytes behind another. `AllocError` where 32 bits can't name it.
+/// The offset that is so many bytes behind another; `AllocError` where 32 bits can't hold it.
 fn offset_after(at: u32, size: u32) -> Result<u32, AllocError>
     ensures { IfOk result (λ next. next ≡ at + size) }
 {
@@ -311,8 +314,8 @@ impl Layout {
 ///
 /// # Errors
 ///
-/// `AllocError` where there is no memory, or where the format's numbers can't tell of the file: a directory of more than
-/// 65,535 entries, or an offset of 2^32 or more.
+/// `AllocError` where there is no memory, or where the format's numbers can't hold what the file needs: a directory of
+/// more than 65,535 entries, or an offset of 2^32 or more.
 #[tactic(auto, unfolding(crate::specs::Files::file_bytes))]
 pub fn file_bytes(
     alloc: Global,

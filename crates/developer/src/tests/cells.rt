@@ -2,7 +2,9 @@
 
 ghost use Rattle.std.specs.Prelude.{◌≡◌, ◌%◌, ◌<◌, ◌≤◌, ◌^◌, length, IfSome};
 ghost use Rattle.dng_tags.specs.Facts.{IsFrame};
-ghost use Rattle.developer.specs.Develop.{StagesStay};
+ghost use Rattle.dev_settings.specs.Settings.{standard_settings};
+ghost use Rattle.developer.specs.Develop.{IsInForce, StagesStay};
+ghost use Rattle.developer.specs.Sessions.{in_force};
 
 use dev_settings::{Change, Settings};
 use dev_stages::{DevStage, plan, stage_of};
@@ -19,7 +21,7 @@ use std::test::Fail;
 use tone_table::Curve;
 
 /// The numbers of cells fetched and run, and of samples kept.
-type Numbers = (u64, u64, u64);
+pub(super) type Numbers = (u64, u64, u64);
 
 /// What a session did and keeps.
 fn numbers<B: Base>(session: &Session<B, DevStage>) -> Numbers {
@@ -80,7 +82,7 @@ fn whole<B: Base, L: Ledger>(
 }
 
 /// A session of a frame's stages under the standard settings.
-fn open<'a>(
+pub(super) fn open<'a>(
     alloc: Global,
     bytes: &'a [u8],
     frame: &Frame,
@@ -92,10 +94,15 @@ fn open<'a>(
     requires most { cell ≤ 512 }
     requires multiple { cell % 16 ≡ 0 }
     requires budget { budget ≤ 2 ^ 30 }
+    ensures in_force { IfSome result (λ session. IsInForce (in_force frame.now standard_settings session)) }
     ensures seven { IfSome result (λ session. length session.stages ≡ 7) }
 {
-    let segments = Segments::open(alloc, bytes, frame).ok()?;
-    let stages = plan(alloc, frame, &Settings::standard()).ok()?;
+    let Ok(segments) = Segments::open(alloc, bytes, frame) else {
+        return None;
+    };
+    let Ok(stages) = plan(alloc, frame, &Settings::standard()) else {
+        return None;
+    };
     if stages.len() != 7 {
         return None;
     }

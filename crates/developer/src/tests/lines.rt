@@ -111,8 +111,8 @@ fn long_scripts(rt: HostRuntime) -> Result<(), Fail> {
     Ok(())
 }
 
-/// The reply to a region of the frame of samples 1000 with the identity as its first forward matrix, then that to a change
-/// to no matrix, and to the region again.
+/// The reply to a region of the frame of samples 1000 with the identity as its first forward matrix, then that to a
+/// change to no matrix, and to the region again.
 fn two_matrices() -> &'static [u8] {
     b"image 19\nP6\n1 1\n65535\n\x04\x02\x03\xCB\x04\xE0ok\nimage 19\nP6\n1 1\n65535\n\x03\xE8\x03\xE8\x03\xE8"
 }

@@ -131,8 +131,8 @@ fn run_slowly(
     })
 }
 
-/// Appends the line of a region of one pixel with spaces behind it, `length` bytes long before its line feed; the last of
-/// them is a carriage return, where it has one.
+/// Appends the line of a region of one pixel with spaces behind it, `length` bytes long before its line feed; the last
+/// of them is a carriage return, where it has one.
 fn push_line(script: &mut Vec<u8>, length: usize, returns: bool) -> Option<()> {
     let start = script.len();
     script.extend_from_slice(b"region 0 0 1 1 ppm").ok()?;
@@ -208,7 +208,8 @@ enum Part {
     Sink,
 }
 
-/// How the run over the stat lines' script ends where a call of a part fails, and whether it wrote a prefix of the replies.
+/// How the run over the stat lines' script ends where a call of a part fails, and whether it wrote a prefix of the
+/// replies.
 fn ends(
     alloc: Global,
     part: Part,

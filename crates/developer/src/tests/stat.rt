@@ -1,15 +1,16 @@
-//! Tests of scripts with `stat` lines over made frames: what `run` tells, its tally, and that it writes what `answer` does.
+//! Tests of scripts with `stat` lines over made frames: what `run` tells, its tally, and that it writes what `answer`
+//! does.
 
-ghost use Rattle.std.specs.Prelude.{◌≡◌, ◌%◌, ◌<◌, ◌≤◌, ◌^◌, length, IfSome};
-ghost use Rattle.dng_tags.specs.Facts.{IsFrame};
+ghost use Rattle.std.specs.Prelude.{◌≡◌, ◌%◌, ◌<◌, ◌≤◌, ◌^◌, length};
 ghost use Rattle.dev_settings.specs.Settings.{standard_settings};
 ghost use Rattle.developer.specs.Develop.{IsInForce};
 ghost use Rattle.developer.specs.Sessions.{in_force};
 
 use super::Outside;
+use super::cells::{Numbers, open};
 use crate::{Status, answer};
 use dev_settings::{Settings, number, split_line};
-use dev_stages::{DevStage, plan};
+use dev_stages::DevStage;
 use dng_tags::{Frame, read_frame};
 use frame_make::{Make, make_frame};
 use frame_segments::Segments;
@@ -38,9 +39,6 @@ impl Scene {
         }
     }
 }
-
-/// The numbers of cells fetched and run, and of samples kept.
-type Numbers = (u64, u64, u64);
 
 /// A script over a frame with cells of a side under a budget, what is written of it but for images, and the tally.
 #[derive(Clone, Copy)]
@@ -123,7 +121,10 @@ fn image_length(line: &[u8]) -> Option<usize> {
 fn texts(alloc: Global, written: &[u8]) -> Option<Vec<u8>> {
     let mut texts = Vec::new(alloc);
     let mut rest = written;
-    while let Some((line, after)) = split_line(rest) {
+    for _ in 0..written.len() {
+        let Some((line, after)) = split_line(rest) else {
+            break;
+        };
         rest = match image_length(line) {
             Some(length) => after.get(length..)?,
             None => {
@@ -188,33 +189,6 @@ fn answer_lines<B: Base, L: Ledger>(
     Some(())
 }
 
-/// A session of a frame's stages under the standard settings.
-fn open<'a>(
-    alloc: Global,
-    bytes: &'a [u8],
-    frame: &Frame,
-    cell: u32,
-    budget: u32,
-) -> Option<Session<Segments<'a>, DevStage>>
-    requires frame { IsFrame frame.now bytes.now }
-    requires least { 16 ≤ cell }
-    requires most { cell ≤ 512 }
-    requires multiple { cell % 16 ≡ 0 }
-    requires budget { budget ≤ 2 ^ 30 }
-    ensures in_force { IfSome result (λ session. IsInForce (in_force frame.now standard_settings session)) }
-{
-    let Ok(segments) = Segments::open(alloc, bytes, frame) else {
-        return None;
-    };
-    let Ok(stages) = plan(alloc, frame, &Settings::standard()) else {
-        return None;
-    };
-    if stages.is_empty() || stages.len() > 64 {
-        return None;
-    }
-    Session::open(alloc, segments, stages, cell, u64::from(budget)).ok()
-}
-
 /// What `answer` writes of each line of a script.
 fn answered(alloc: Global, file: &[u8], cell: u32, budget: u32, script: &[u8]) -> Option<Vec<u8>>
     requires short { length file.now ≤ 2 ^ 28 }
@@ -226,7 +200,7 @@ fn answered(alloc: Global, file: &[u8], cell: u32, budget: u32, script: &[u8]) -
     let Ok(frame) = read_frame(alloc, file) else {
         return None;
     };
-    let mut session = open(alloc, file, &frame, cell, budget)?;
+    let mut session = open(alloc, file, &frame, cell, u64::from(budget))?;
     let mut out = MemSink::new(alloc, 1 << 16).ok()?;
     answer_lines::<Segments<'_>, Brand>(
         alloc,

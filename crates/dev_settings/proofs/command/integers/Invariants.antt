@@ -8,7 +8,8 @@ abbrev pub invariant-loop-word : goal.invariant-loop-word
 invariant-loop-word l = record {
   few : length l.list ≤ 32;
   count : length l.list + length l.words ≡ length l.fn.words;
-  so_far : option_map (λ rest. l.list ++ rest) (each (integer_of l.minus) l.words) ≡ each (integer_of l.minus) l.fn.words;
+  so_far : option_map (λ rest. l.list ++ rest) (each (integer_of l.minus) l.words) ≡ each (integer_of l.minus)
+      l.fn.words;
 }
 
 abbrev pub decreases-loop-word : goal.decreases-loop-word

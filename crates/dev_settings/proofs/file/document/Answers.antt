@@ -7,4 +7,5 @@ returns-in-Ok c = document_of-read c.args.bytes.now _ c.in-Ok.ensures.ok.0 c.in-
 
 pub returns-else-is_memory : goal.returns-else-is_memory
 returns-else-is_memory c =
-    document_of-refused c.args.bytes.now (c.in-Err.ensures.refused (λ memory. false≢true (c.if-is_memory.ensures.1 memory)))
+    document_of-refused c.args.bytes.now
+    (c.in-Err.ensures.refused (λ memory. false≢true (c.if-is_memory.ensures.1 memory)))

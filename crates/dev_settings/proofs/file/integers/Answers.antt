@@ -8,7 +8,8 @@ use Rattle.dev_settings.proofs.file.integers.Goals as goal
 pub returns-then-is_full : goal.returns-then-is_full
 returns-then-is_full c =
     let full = c.is_full.ensures.full.0 c.if-is_full.true in
-    integers_of-many as_integer (listed (items_view c.args.items.now)) (omega (arith, length_listed c.args.items.now, full))
+    integers_of-many as_integer (listed (items_view c.args.items.now))
+    (omega (arith, length_listed c.args.items.now, full))
 
 pub returns : goal.returns
 returns c =

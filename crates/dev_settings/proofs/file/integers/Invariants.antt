@@ -10,5 +10,6 @@ abbrev pub invariant-loop-item : goal.invariant-loop-item
 invariant-loop-item l = record {
   few : length l.list ≤ 32;
   count : length l.list ≡ l.item-index;
-  so_far : option_map (λ rest. l.list ++ rest) (each as_integer (listed (items_view (drop l.item-index l.items)))) ≡ each as_integer (listed (items_view l.items));
+  so_far : option_map (λ rest. l.list ++ rest) (each as_integer (listed (items_view (drop l.item-index l.items))))
+      ≡ each as_integer (listed (items_view l.items));
 }

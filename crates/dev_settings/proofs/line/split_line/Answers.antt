@@ -5,11 +5,15 @@ use Rattle.dev_settings.proofs.line.split_line.Goals as goal
 
 pub returns-in_err-end-clause-found : goal.returns-in_err-end-clause-found
 returns-in_err-end-clause-found c =
-    rw c.from_residual.ensures (λ some. absurd cc, λ has. absurd (contains_no_end c.args.bytes.now (sym c.in_err-end.ensures) has))
+    rw c.from_residual.ensures (
+      λ some. absurd cc,
+      λ has. absurd (contains_no_end c.args.bytes.now (sym c.in_err-end.ensures) has),
+    )
 
 pub returns-in_err-end-clause-lines : goal.returns-in_err-end-clause-lines
 returns-in_err-end-clause-lines c =
-    rw c.from_residual.ensures (lines_of_none c.args.bytes.now (position_none _ c.args.bytes.now (sym c.in_err-end.ensures)))
+    rw c.from_residual.ensures
+    (lines_of_none c.args.bytes.now (position_none _ c.args.bytes.now (sym c.in_err-end.ensures)))
 
 pub returns-clause-found : goal.returns-clause-found
 returns-clause-found c = (λ _. contains_end c.args.bytes.now _ (sym c.in_ok-end.ensures), λ _. refl)

@@ -15,4 +15,5 @@ returns c =
     let rest = take_rest line start in
     let place : c.unwrap_or-end.result ≡ position_or_len is_space (drop start line) =
     c.unwrap_or-end.ensures ∙ rw (c.first_space.ensures, rest) (unwrap_or-position is_space (drop start line)) in
-    rw (c.split_at.ensures.front, c.split_at.ensures.back, rest, place) (words_first line start (sym c.in_ok-line.ensures))
+    rw (c.split_at.ensures.front, c.split_at.ensures.back, rest, place)
+    (words_first line start (sym c.in_ok-line.ensures))

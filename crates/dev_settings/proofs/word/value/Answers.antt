@@ -3,7 +3,8 @@ use Rattle.dev_settings.proofs.WordLemmas.{numeral_from_test, value_fits, value_
 use Rattle.dev_settings.proofs.word.value.Goals as goal
 
 pub overflow_sub-digit : goal.overflow_sub-digit
-overflow_sub-digit c = (value_step c.args.digits.now c.loop-digit.digit-index (numeral_from_test _ c.requires) c.loop-digit-test.true).0
+overflow_sub-digit c = (value_step c.args.digits.now c.loop-digit.digit-index (numeral_from_test _ c.requires)
+    c.loop-digit-test.true).0
 
 pub overflow_mul-value : goal.overflow_mul-value
 overflow_mul-value c =

@@ -7,5 +7,6 @@ abbrev pub invariant-loop-at : goal.invariant-loop-at
 invariant-loop-at l = record {
   size : length l.entries ≡ 9;
   count : length l.integers ≡ 9;
-  so_far : option_map (λ rest. take l.at l.entries ++ rest) (each entry_of (drop l.at l.integers)) ≡ each entry_of l.integers;
+  so_far : option_map (λ rest. take l.at l.entries ++ rest) (each entry_of (drop l.at l.integers))
+      ≡ each entry_of l.integers;
 }

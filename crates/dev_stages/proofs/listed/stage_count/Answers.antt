@@ -5,8 +5,12 @@ use Rattle.dev_stages.proofs.listed.stage_count.Goals as goal
 pub loop-opcode-preserved : goal.loop-opcode-preserved
 loop-opcode-preserved c =
     let l = c.loop-opcode in
-    let next = counted_on c.args.opcodes.now l.opcode-index c.opcode-item.result c.loop-opcode-test.true c.opcode-item.is in
-    record { count = omega (arith, next, c.count_of-count.ensures.count, l.invariant.count); few = omega (arith, c.count_of-count.ensures.few, l.invariant.few) }
+    let next = counted_on c.args.opcodes.now l.opcode-index c.opcode-item.result c.loop-opcode-test.true
+    c.opcode-item.is in
+    record {
+      count = omega (arith, next, c.count_of-count.ensures.count, l.invariant.count);
+      few = omega (arith, c.count_of-count.ensures.few, l.invariant.few);
+    }
 
 pub returns-clause-count : goal.returns-clause-count
 returns-clause-count c =

@@ -22,16 +22,19 @@ pub returns-in-Some-clause-writes : goal.returns-in-Some-clause-writes
 returns-in-Some-clause-writes g c =
     let P : Plane = whole_of apply_of c.args.session.now.stages c.args.session.now.plane in
     let part : Option Rect = part_of P c.args.x c.args.y c.args.w c.args.h in
-    writes_same g.O.Sink.stands_for g.O.Sink.faults c.args.out.now c.write_image.new.out _ _ (λ (n : ℕ). n) c.write_image.result
+    writes_same g.O.Sink.stands_for g.O.Sink.faults c.args.out.now c.write_image.new.out _ _ (λ (n : ℕ). n)
+    c.write_image.result
     (sym (reply_some P c.args.format part c.in-Some.rect (sym c.in-Some.ensures.rect))) c.write_image.ensures.writes
 
 pub returns-in-None-clause-writes : goal.returns-in-None-clause-writes
 returns-in-None-clause-writes g c =
     let P : Plane = whole_of apply_of c.args.session.now.stages c.args.session.now.plane in
     let part : Option Rect = part_of P c.args.x c.args.y c.args.w c.args.h in
-    writes_same g.O.Sink.stands_for g.O.Sink.faults c.args.out.now c.write_reply.new.out _ _ (λ (n : ℕ). n) c.write_reply.result
+    writes_same g.O.Sink.stands_for g.O.Sink.faults c.args.out.now c.write_reply.new.out _ _ (λ (n : ℕ). n)
+    c.write_reply.result
     (sym (reply_none P c.args.format part (sym c.in-None.ensures.rect))) c.write_reply.ensures
 
 pub returns-in-None-clause-left : goal.returns-in-None-clause-left
 returns-in-None-clause-left g c =
-    if_err c.write_reply.result (λ stop. ⊤) _ (λ stop any. none_made stop.cause c.args.session.now _ c.args.work.now) (if_err_any c.write_reply.result)
+    if_err c.write_reply.result (λ stop. ⊤) _ (λ stop any. none_made stop.cause c.args.session.now _ c.args.work.now)
+    (if_err_any c.write_reply.result)

@@ -1,6 +1,6 @@
 use Rattle.std.proofs.Common.{[], inl, refl, sym, ◌∙◌, ap, arith, map, string_bytes}
 use Rattle.developer.specs.Run.{Call}
-use Rattle.developer.specs.Shown.{options_view}
+use Rattle.developer.specs.inner.Shown.{options_view}
 use Rattle.developer.proofs.Endings.{nothing_answered, nothing_prefix}
 use Rattle.developer.proofs.Outsides.{appends_nothing}
 use Rattle.developer.proofs.opening.open.Goals as goal
@@ -9,8 +9,22 @@ pub returns-in-Err-clause-ended : goal.returns-in-Err-clause-ended
 returns-in-Err-clause-ended g c left script_faults tally =
     let called : Call = record {
       words = map string_bytes c.args.words.now;
-      before = record { told = g.F.Files.told c.args.files.now; file_faults = g.F.Files.faults c.args.files.now; left = left; script_faults = script_faults; sink_faults = g.O.Sink.faults c.args.out.now; tally = tally };
-      after = record { told = g.F.Files.told c.args.files.now; file_faults = g.F.Files.faults c.args.files.now; left = left; script_faults = script_faults; sink_faults = g.O.Sink.faults c.args.out.now; tally = tally };
+      before = record {
+        told = g.F.Files.told c.args.files.now;
+        file_faults = g.F.Files.faults c.args.files.now;
+        left = left;
+        script_faults = script_faults;
+        sink_faults = g.O.Sink.faults c.args.out.now;
+        tally = tally;
+      };
+      after = record {
+        told = g.F.Files.told c.args.files.now;
+        file_faults = g.F.Files.faults c.args.files.now;
+        left = left;
+        script_faults = script_faults;
+        sink_faults = g.O.Sink.faults c.args.out.now;
+        tally = tally;
+      };
       written = [];
       taken = [];
     } in
@@ -20,8 +34,22 @@ pub returns-in-Err-Memory-clause-ended : goal.returns-in-Err-Memory-clause-ended
 returns-in-Err-Memory-clause-ended g c left script_faults tally =
     let called : Call = record {
       words = map string_bytes c.args.words.now;
-      before = record { told = g.F.Files.told c.args.files.now; file_faults = g.F.Files.faults c.args.files.now; left = left; script_faults = script_faults; sink_faults = g.O.Sink.faults c.args.out.now; tally = tally };
-      after = record { told = g.F.Files.told c.read_frame_file.new.files; file_faults = g.F.Files.faults c.read_frame_file.new.files; left = left; script_faults = script_faults; sink_faults = g.O.Sink.faults c.args.out.now; tally = tally };
+      before = record {
+        told = g.F.Files.told c.args.files.now;
+        file_faults = g.F.Files.faults c.args.files.now;
+        left = left;
+        script_faults = script_faults;
+        sink_faults = g.O.Sink.faults c.args.out.now;
+        tally = tally;
+      };
+      after = record {
+        told = g.F.Files.told c.read_frame_file.new.files;
+        file_faults = g.F.Files.faults c.read_frame_file.new.files;
+        left = left;
+        script_faults = script_faults;
+        sink_faults = g.O.Sink.faults c.args.out.now;
+        tally = tally;
+      };
       written = [];
       taken = [];
     } in
@@ -31,8 +59,22 @@ pub returns-in-Err-Unread-clause-ended : goal.returns-in-Err-Unread-clause-ended
 returns-in-Err-Unread-clause-ended g c left script_faults tally =
     let called : Call = record {
       words = map string_bytes c.args.words.now;
-      before = record { told = g.F.Files.told c.args.files.now; file_faults = g.F.Files.faults c.args.files.now; left = left; script_faults = script_faults; sink_faults = g.O.Sink.faults c.args.out.now; tally = tally };
-      after = record { told = g.F.Files.told c.read_frame_file.new.files; file_faults = g.F.Files.faults c.read_frame_file.new.files; left = left; script_faults = script_faults; sink_faults = g.O.Sink.faults c.args.out.now; tally = tally };
+      before = record {
+        told = g.F.Files.told c.args.files.now;
+        file_faults = g.F.Files.faults c.args.files.now;
+        left = left;
+        script_faults = script_faults;
+        sink_faults = g.O.Sink.faults c.args.out.now;
+        tally = tally;
+      };
+      after = record {
+        told = g.F.Files.told c.read_frame_file.new.files;
+        file_faults = g.F.Files.faults c.read_frame_file.new.files;
+        left = left;
+        script_faults = script_faults;
+        sink_faults = g.O.Sink.faults c.args.out.now;
+        tally = tally;
+      };
       written = [];
       taken = [];
     } in (
@@ -42,6 +84,10 @@ returns-in-Err-Unread-clause-ended g c left script_faults tally =
         omega arith,
         λ none. refl,
         nothing_answered called refl refl,
-        (_, sym c.in-Ok-Some.ensures ∙ ap options_view c.in-Ok-Some.field-0-is, inl (rw c.in-Err-Unread.field-0-is at c.in-Err-Unread.ensures.opens)),
+        (
+          _,
+          sym c.in-Ok-Some.ensures ∙ ap options_view c.in-Ok-Some.field-0-is,
+          inl (rw c.in-Err-Unread.field-0-is at c.in-Err-Unread.ensures.opens),
+        ),
       ),
     )

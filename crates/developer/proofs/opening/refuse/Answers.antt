@@ -6,7 +6,7 @@ pub returns-in-Ok : goal.returns-in-Ok
 returns-in-Ok g c = record {
   written = c.args.line.now;
   appended = c.in-Ok.ensures.whole;
-  front = prefix_whole c.args.line.now;
+  prefix = prefix_whole c.args.line.now;
   counts = c.write_bytes.ensures.counts;
   outcome = inl (refl, refl);
 }
@@ -14,8 +14,8 @@ returns-in-Ok g c = record {
 pub returns-in-Err : goal.returns-in-Err
 returns-in-Err g c = record {
   written = take c.in-Err.fault.written c.args.line.now;
-  appended = c.in-Err.ensures.front;
-  front = prefix_taken c.in-Err.fault.written c.args.line.now;
+  appended = c.in-Err.ensures.prefix;
+  prefix = prefix_taken c.in-Err.fault.written c.args.line.now;
   counts = c.write_bytes.ensures.counts;
   outcome = inr (c.into.ensures, c.in-Err.ensures.cause);
 }

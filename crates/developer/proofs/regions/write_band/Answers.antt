@@ -7,7 +7,13 @@ use Rattle.developer.proofs.regions.write_band.Goals as goal
 
 pub write_samples-requires-clause-few : goal.write_samples-requires-clause-few
 write_samples-requires-clause-few g c =
-    omega (arith, c.requires.few, ap length c.in-Ok.ensures.crop, length-part (whole_of apply_of c.args.session.now.stages c.args.session.now.plane) c.args.band c.requires.develops.developed)
+    omega (
+      arith,
+      c.requires.few,
+      ap length c.in-Ok.ensures.crop,
+      length-part (whole_of apply_of c.args.session.now.stages c.args.session.now.plane) c.args.band
+          c.requires.develops.developed,
+    )
 
 pub returns-in_err-write_samples-in-Ok-clause-stops : goal.returns-in_err-write_samples-in-Ok-clause-stops
 returns-in_err-write_samples-in-Ok-clause-stops g c first all h =

@@ -13,8 +13,10 @@ use Rattle.developer.proofs.regions.write_image.Goals as goal
 pub returns-clause-writes : goal.returns-clause-writes
 returns-clause-writes g c =
     let P : Plane = whole_of apply_of c.args.session.now.stages c.args.session.now.plane in
-    writes_same g.O.Sink.stands_for g.O.Sink.faults c.args.out.now c.write_bands.new.out _ _ (λ (n : ℕ). n) c.write_bands.result
-    (reply_pieces c.args.format P c.args.rect c.push_heads.new.piece c.requires.develops.developed c.push_heads.ensures.heads) c.write_bands.ensures.writes
+    writes_same g.O.Sink.stands_for g.O.Sink.faults c.args.out.now c.write_bands.new.out _ _ (λ (n : ℕ). n)
+    c.write_bands.result
+    (reply_pieces c.args.format P c.args.rect c.push_heads.new.piece c.requires.develops.developed
+    c.push_heads.ensures.heads) c.write_bands.ensures.writes
 
 pub returns-in_err-piece-clause-left : goal.returns-in_err-piece-clause-left
 returns-in_err-piece-clause-left g c =

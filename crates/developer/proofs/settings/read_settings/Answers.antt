@@ -11,5 +11,6 @@ returns-in_err-bytes-clause-reads g c =
 
 pub returns-clause-reads : goal.returns-clause-reads
 returns-clause-reads g c =
-    let told = subst (λ (b : List ℕ). IfSome (g.F.Files.told c.args.files.now c.args.name.now) (λ all. b ≡ all)) (sym c.deref.ensures.value) c.in_ok-bytes.ensures.whole in
+    let told = subst (λ (b : List ℕ). IfSome (g.F.Files.told c.args.files.now c.args.name.now) (λ all. b ≡ all))
+    (sym c.deref.ensures.value) c.in_ok-bytes.ensures.whole in
     settings_read _ _ _ _ c.deref.result.now _ told c.settings_for.ensures

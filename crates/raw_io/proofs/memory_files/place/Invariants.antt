@@ -1,5 +1,5 @@
 use Rattle.std.proofs.Common.{◌≡◌, ◌+◌, drop}
-use Rattle.raw_io.specs.Memory.{place_of}
+use Rattle.raw_io.specs.inner.Places.{place_of}
 use Rattle.raw_io.proofs.memory_files.place.Given as goal
 
 abbrev pub invariant-loop-at : goal.invariant-loop-at

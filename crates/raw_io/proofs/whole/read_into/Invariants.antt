@@ -8,7 +8,7 @@ invariant-loop-count g l = record {
   within : vec_len l.whole ≤ l.limit;
   contents : (other : List ℕ) → g.F.Files.told l.files other ≡ g.F.Files.told l.fn.files other;
   no_fault : SameCounts (g.F.Files.faults l.fn.files) (g.F.Files.faults l.files);
-  front : IfSome (g.F.Files.told l.fn.files l.name) (λ contents. l.whole.items ≡ take (vec_len l.whole) contents);
+  prefix : IfSome (g.F.Files.told l.fn.files l.name) (λ contents. l.whole.items ≡ take (vec_len l.whole) contents);
 }
 
 abbrev pub decreases-loop-count : goal.decreases-loop-count

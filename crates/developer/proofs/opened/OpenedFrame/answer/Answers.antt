@@ -10,8 +10,11 @@ pub returns-clause-sends : goal.returns-clause-sends
 returns-clause-sends g c =
     let line = c.args.line.now in
     let now = in_force c.self.inside.frame c.self.inside.settings c.self.inside.session in
-    subst (λ (n : InForce). Sends g.O.Sink.stands_for g.O.Sink.faults c.args.out.now c.answer.new.out (answer_of n line).bytes c.match-answer.result) c.self.view_is
+    subst (λ (n : InForce). Sends g.O.Sink.stands_for g.O.Sink.faults c.args.out.now c.answer.new.out
+    (answer_of n line).bytes c.match-answer.result) c.self.view_is
     (elim c.match-answer.branch [
-      | in-Ok w ↦ rw w.result-is (sends_ok g.O.Sink.stands_for g.O.Sink.faults c.args.out.now c.answer.new.out (answer_of now line).bytes w.in-Ok.ensures.written)
-      | in-Err w ↦ rw (w.result-is, w.into.ensures) (sends_err g.O.Sink.stands_for g.O.Sink.faults c.args.out.now c.answer.new.out (answer_of now line).bytes w.in-Err.fault w.in-Err.ensures.written)
+      | in-Ok w ↦ rw w.result-is (sends_ok g.O.Sink.stands_for g.O.Sink.faults c.args.out.now c.answer.new.out
+          (answer_of now line).bytes w.in-Ok.ensures.written)
+      | in-Err w ↦ rw (w.result-is, w.into.ensures) (sends_err g.O.Sink.stands_for g.O.Sink.faults c.args.out.now
+          c.answer.new.out (answer_of now line).bytes w.in-Err.fault w.in-Err.ensures.written)
     ])

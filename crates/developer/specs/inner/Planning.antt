@@ -70,6 +70,8 @@ ReadsSettings frame contents before after (Err stops.Unread) = Rises before afte
 ReadsSettings frame contents before after (Err stops.Memory) = ⊤
 
 -- the same by the name of a settings file; without one the settings are the standard ones
-abbrev pub PlansUnder : Frame → (told : List ℕ → Option (List ℕ)) → (before after : List ℕ → ℕ) → Option (List ℕ) → Result Planned SettingsStop → Type 0
+abbrev pub PlansUnder : Frame → (told : List ℕ → Option (List ℕ)) → (before after : List ℕ → ℕ) → Option (List ℕ)
+    → Result Planned SettingsStop → Type 0
 PlansUnder frame told before after None result = Plans frame (Ok standard_settings) result
-PlansUnder frame told before after (Some name) result = ReadsSettings frame (told name) (before name) (after name) result
+PlansUnder frame told before after (Some name) result = ReadsSettings frame (told name) (before name) (after name)
+    result

@@ -1,13 +1,13 @@
 -- What opening a frame promises, before the script. This is this project's own.
 use Rattle.std.specs.Prelude.{◌≡◌, ℕ, ◌≤◌, ◌⊎◌, List, Option, None, Some, IfSome, Result, Ok, Err, ⊤}
-use Rattle.raw_io.specs.Outside.{Appends, IsFrontOf, Rises}
+use Rattle.raw_io.specs.Outside.{Appends, IsPrefixOf, Rises}
 use Rattle.raw_io.specs.declared.whole.ReadFault.{ReadFault}
 use Rattle.raw_io.specs.declared.whole.ReadFault.TheVariants as reads
 use Rattle.tag_rules.specs.declared.faults.FrameFault.{FrameFault}
 use Rattle.tag_rules.specs.declared.faults.FrameFault.TheVariants as frames
 use Rattle.dng_tags.specs.Raw.{undecoded}
 use Rattle.developer.specs.Opening.{FileUnread, FrameFile, opened_for, opened_named, refused_frame, refused_settings}
-use Rattle.developer.specs.Planning.{seen}
+use Rattle.developer.specs.inner.Planning.{seen}
 use Rattle.developer.specs.Sessions.{InForce}
 use Rattle.developer.specs.Words.{Options}
 use Rattle.developer.specs.declared.settings.SettingsStop.{SettingsStop}
@@ -36,15 +36,19 @@ stopped stops.Memory = openings.Memory
 
 -- reading the files that the words ask for, as far as they are told, gives what they call for; a read failed only where
 -- its count rose
-abbrev pub OpensFiles : (told : List ℕ → Option (List ℕ)) → (before after : List ℕ → ℕ) → Options → Result InForce OpenFault → Type 0
+abbrev pub OpensFiles : (told : List ℕ → Option (List ℕ)) → (before after : List ℕ → ℕ) → Options
+    → Result InForce OpenFault → Type 0
 OpensFiles told before after chosen (Ok now) = IfSome (opened_for (Some chosen) told) (λ o. o ≡ Ok now)
-OpensFiles told before after chosen (Err (openings.Frame fault)) = IfSome (opened_for (Some chosen) told) (λ o. o ≡ Err (refused_frame fault))
-OpensFiles told before after chosen (Err (openings.Settings refusal)) = IfSome (opened_for (Some chosen) told) (λ o. o ≡ Err (refused_settings (seen refusal)))
+OpensFiles told before after chosen (Err (openings.Frame fault)) =
+    IfSome (opened_for (Some chosen) told) (λ o. o ≡ Err (refused_frame fault))
+OpensFiles told before after chosen (Err (openings.Settings refusal)) =
+    IfSome (opened_for (Some chosen) told) (λ o. o ≡ Err (refused_settings (seen refusal)))
 OpensFiles told before after chosen (Err openings.Unread) = FileUnread told before after chosen
 OpensFiles told before after chosen (Err openings.Memory) = ⊤
 
 -- of a frame whose record was read
-abbrev pub Opens : (told : List ℕ → Option (List ℕ)) → (before after : List ℕ → ℕ) → Options → FrameFile → Result InForce OpenFault → Type 0
+abbrev pub Opens : (told : List ℕ → Option (List ℕ)) → (before after : List ℕ → ℕ) → Options → FrameFile
+    → Result InForce OpenFault → Type 0
 Opens told before after chosen file (Ok now) =
     (undecoded file.bytes file.frame ≡ None)
     × IfSome (opened_named chosen file chosen.settings told) (λ o. o ≡ Ok now)
@@ -58,9 +62,11 @@ Opens told before after chosen file (Err openings.Unread) =
 Opens told before after chosen file (Err openings.Memory) = ⊤
 
 -- a line was written whole and the run ends so, or writing it failed after a prefix
-pub record Refuses {S : Type 0} (stands_for : S → List ℕ → Type 0) (faults : S → ℕ) (old new : S) (line : List ℕ) (ending result : Ending) : Type 0 where
+pub record Refuses {S : Type 0} (stands_for : S → List ℕ → Type 0) (faults : S → ℕ) (old new : S) (line : List ℕ)
+    (ending result : Ending) : Type 0 where
   pub written : List ℕ
   pub appended : Appends stands_for old new written
-  pub front : IsFrontOf written line
+  pub prefix : IsPrefixOf written line
   pub counts : faults old ≤ faults new
-  pub outcome : ((result ≡ ending) × (written ≡ line)) ⊎ ((result ≡ endings.WriteFault) × Rises (faults old) (faults new))
+  pub outcome : ((result ≡ ending) × (written ≡ line))
+      ⊎ ((result ≡ endings.WriteFault) × Rises (faults old) (faults new))

@@ -1,6 +1,7 @@
 -- What reading a script piece by piece promises. This is this project's own.
-use Rattle.std.specs.Prelude.{◌≡◌, ℕ, ◌+◌, ◌≤◌, ◌⊎◌, List, [], length, take, Option, Some, IfSome, Result, Ok, Err, OnOk}
-use Rattle.raw_io.specs.Outside.{Appends, IsFrontOf, Rises, Takes}
+use Rattle.std.specs.Prelude.{◌≡◌, ℕ, ◌+◌, ◌≤◌, ◌⊎◌, List, [], length, take, Option, Some, IfSome, Result, Ok, Err}
+use Rattle.std.specs.Prelude.{OnOk}
+use Rattle.raw_io.specs.Outside.{Appends, IsPrefixOf, Rises, Takes}
 use Rattle.dev_settings.specs.Lines.{all_lines, lines_of}
 use Rattle.developer.specs.Answered.{Sends}
 use Rattle.developer.specs.Answers.{Answer}
@@ -15,7 +16,8 @@ abbrev pub kept_of : List ℕ → List ℕ
 kept_of line = take 4097 line
 
 -- lines were answered one after the other, or the answers cut short
-pub record IsAnswered {S T : Type 0} (stands_for : S → List ℕ → Type 0) (faults : S → ℕ) (first now : S) (start : InForce) (lines : List (List ℕ)) (after : InForce) (result : Result T Cause) : Type 0 where
+pub record IsAnswered {S T : Type 0} (stands_for : S → List ℕ → Type 0) (faults : S → ℕ) (first now : S)
+    (start : InForce) (lines : List (List ℕ)) (after : InForce) (result : Result T Cause) : Type 0 where
   pub sends : Sends stands_for faults first now (answers_to start lines).bytes result
   pub state : OnOk result (after ≡ (answers_to start lines).state)
 
@@ -33,29 +35,36 @@ abbrev pub whole_answers : InForce → List ℕ → Answer InForce
 whole_answers start taken = answers_to start (all_lines (lines_of taken))
 
 -- a prefix of the answers was written
-abbrev pub IsFront : {C : Type 0} (left : C → Option (List ℕ)) (before after : C) → InForce → (taken written : List ℕ) → Type 0
-IsFront left before after start taken written =
-    IsFrontOf written (complete_answers start taken).bytes
-    ⊎ (IsWhole left before after taken × IsFrontOf written (whole_answers start taken).bytes)
+abbrev pub IsPrefixOfAnswers : {C : Type 0} (left : C → Option (List ℕ)) (before after : C) → InForce
+    → (taken written : List ℕ)
+    → Type 0
+IsPrefixOfAnswers left before after start taken written =
+    IsPrefixOf written (complete_answers start taken).bytes
+    ⊎ (IsWhole left before after taken × IsPrefixOf written (whole_answers start taken).bytes)
 
 -- how reading ended: what was taken, what was written, and what is in force then
-abbrev pub Outcome : {C S : Type 0} (left : C → Option (List ℕ)) (script_faults : C → ℕ) (sink_faults : S → ℕ) (start : InForce) (before after : C) (first now : S) (state : InForce) (taken written : List ℕ)
+abbrev pub Outcome : {C S : Type 0} (left : C → Option (List ℕ)) (script_faults : C → ℕ) (sink_faults : S → ℕ)
+    (start : InForce) (before after : C) (first now : S) (state : InForce) (taken written : List ℕ)
     → {T : Type 0} → Result T Ending → Type 0
 Outcome left script_faults sink_faults start before after first now state taken written (Ok value) =
-    IsWhole left before after taken × (written ≡ (whole_answers start taken).bytes) × (state ≡ (whole_answers start taken).state)
+    IsWhole left before after taken × (written ≡ (whole_answers start taken).bytes)
+    × (state ≡ (whole_answers start taken).state)
 Outcome left script_faults sink_faults start before after first now state taken written (Err endings.ScriptTooLong) =
-    (length taken ≡ max_script + 1) × (written ≡ (complete_answers start taken).bytes) × (state ≡ (complete_answers start taken).state)
+    (length taken ≡ max_script + 1) × (written ≡ (complete_answers start taken).bytes)
+    × (state ≡ (complete_answers start taken).state)
 Outcome left script_faults sink_faults start before after first now state taken written (Err endings.ReadFault) =
     (length taken ≤ max_script) × Rises (script_faults before) (script_faults after)
     × (written ≡ (complete_answers start taken).bytes) × (state ≡ (complete_answers start taken).state)
 Outcome left script_faults sink_faults start before after first now state taken written (Err endings.WriteFault) =
-    Rises (sink_faults first) (sink_faults now) × IsFront left before after start taken written
+    Rises (sink_faults first) (sink_faults now) × IsPrefixOfAnswers left before after start taken written
 Outcome left script_faults sink_faults start before after first now state taken written (Err endings.Memory) =
-    IsFront left before after start taken written
+    IsPrefixOfAnswers left before after start taken written
 Outcome left script_faults sink_faults start before after first now state taken written (Err ending) = ⊥
 
 -- a script was read and its lines answered, to its end or until something failed
-pub record Reads {C S T : Type 0} (left : C → Option (List ℕ)) (script_faults : C → ℕ) (stands_for : S → List ℕ → Type 0) (sink_faults : S → ℕ) (start : InForce) (before after : C) (first now : S) (state : InForce) (result : Result T Ending) : Type 0 where
+pub record Reads {C S T : Type 0} (left : C → Option (List ℕ)) (script_faults : C → ℕ)
+    (stands_for : S → List ℕ → Type 0) (sink_faults : S → ℕ) (start : InForce) (before after : C) (first now : S)
+    (state : InForce) (result : Result T Ending) : Type 0 where
   pub taken : List ℕ
   pub written : List ℕ
   pub takes : Takes (left before) (left after) taken

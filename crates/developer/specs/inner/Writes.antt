@@ -1,8 +1,8 @@
 -- What writing some bytes promises. This is this project's own.
 use Rattle.std.specs.Prelude.{◌≡◌, ℕ, ◌≤◌, List, length, take, Result, Ok, Err, IfErr, IfOk, OnOk}
-use Rattle.raw_io.specs.Outside.{Appends, Rises}
+use Rattle.raw_io.specs.Outside.{Appends}
+use Rattle.developer.specs.Answered.{ByCause}
 use Rattle.raw_io.specs.declared.whole.WriteFault.{WriteFault}
-use Rattle.developer.specs.declared.writing.Cause.{Cause}
 use Rattle.developer.specs.declared.writing.Cause.TheVariants.{Memory, Write}
 use Rattle.developer.specs.declared.writing.Stop.{Stop}
 
@@ -19,17 +19,13 @@ abbrev pub stopped : {T : Type 0} → Result T WriteFault → Result T Stop
 stopped (Ok value) = Ok value
 stopped (Err fault) = Err (by_write fault)
 
--- the sink's count of faults before and after a stop: a write failed where it rose; memory ran out where it is as it was
-abbrev pub ByCause : Cause → (before after : ℕ) → Type 0
-ByCause Write before after = Rises before after
-ByCause Memory before after = after ≡ before
-
 -- On Ok all of these bytes were appended, and the value has their number. After a stop exactly the first `written` of
 -- them were. The sink's count of faults rose exactly where a write failed.
-pub record Writes {S T : Type 0} (stands_for : S → List ℕ → Type 0) (faults : S → ℕ) (old new : S) (bytes : List ℕ) (length_of : T → ℕ) (result : Result T Stop) : Type 0 where
+pub record Writes {S T : Type 0} (stands_for : S → List ℕ → Type 0) (faults : S → ℕ) (old new : S) (bytes : List ℕ)
+    (length_of : T → ℕ) (result : Result T Stop) : Type 0 where
   pub whole : OnOk result (Appends stands_for old new bytes)
   pub number : IfOk result (λ value. length_of value ≡ length bytes)
-  pub front : IfErr result (λ stop. Appends stands_for old new (take stop.written bytes))
+  pub prefix : IfErr result (λ stop. Appends stands_for old new (take stop.written bytes))
   pub within : IfErr result (λ stop. stop.written ≤ length bytes)
   pub calm : OnOk result (faults new ≡ faults old)
   pub counts : faults old ≤ faults new

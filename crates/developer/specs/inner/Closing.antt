@@ -15,8 +15,8 @@ IsIdle s = (s.fetched ≡ 0) × (s.ran ≡ 0) × (samples_kept s ≡ 0)
 abbrev pub IsFresh : Session DevStage → Type 0
 IsFresh s = (s.stamps.changes ≡ 0) × IsIdle s
 
--- The tally once the reading of a script ended so: it rises by the session's numbers where the session is closed, and else
--- it stays. It stays by a session that did nothing, too.
+-- The tally once the reading of a script ended so: it rises by the session's numbers where the session is closed, and
+-- else it stays. It stays by a session that did nothing, too.
 abbrev pub IsClosed : {T : Type 0} → Result T Ending → Session DevStage → (before after : Tally) → Type 0
 IsClosed (Ok value) s before after = RisesBy s before after
 IsClosed (Err endings.ScriptTooLong) s before after = RisesBy s before after

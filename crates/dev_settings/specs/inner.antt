@@ -1,0 +1,3 @@
+-- Words for the contracts between functions of this crate.
+pub mod Answers
+pub mod Shown

@@ -1,0 +1,8 @@
+-- Words for the contracts between functions of this crate.
+pub mod Closing
+pub mod Opens
+pub mod Pieces
+pub mod Planning
+pub mod Reading
+pub mod Shown
+pub mod Writes
