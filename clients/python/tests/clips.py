@@ -1,6 +1,7 @@
 """A clip of twelve frames, and the command over it in another process."""
 
 import contextlib
+import signal
 import subprocess
 import sys
 import time
@@ -58,10 +59,21 @@ def assert_whole(rawdev: Path, clip: Path, out: Path) -> None:
         assert (out / name).with_suffix(".tiff").read_bytes() == own_image(rawdev, clip / name)
 
 
+def _as_from_a_terminal() -> None:
+    """Signals that a run in the background is started with as ignored are taken again."""
+    for number in (signal.SIGINT, signal.SIGTERM):
+        signal.signal(number, signal.SIG_DFL)
+
+
 @contextlib.contextmanager
 def running(environment: dict[str, str], *words: str | Path) -> Iterator["subprocess.Popen[str]"]:
     process = subprocess.Popen(
-        command(*words), env=environment, stdout=subprocess.PIPE, stderr=subprocess.PIPE, text=True
+        command(*words),
+        env=environment,
+        stdout=subprocess.PIPE,
+        stderr=subprocess.PIPE,
+        text=True,
+        preexec_fn=_as_from_a_terminal,
     )
     try:
         yield process
