@@ -4,7 +4,7 @@ use Rattle.std.proofs.Common.{get_or, take, drop, sym, ◌∙◌, ap, arith}
 use Rattle.std.proofs.Math.ListN.{set, get_or-append}
 use Rattle.std.proofs.Math.Nat.{mul-le-mul_right}
 use Rattle.std.proofs.lemmas.Bool.{cases_lt}
-use Rattle.std.proofs.lemmas.List.{get_or-take, get_or-drop, length-take-le, length-drop, length-append}
+use Rattle.std.proofs.lemmas.List.{get_or-take, get_or-drop, length-take-le, length-drop}
 use Rattle.std.proofs.lemmas.List.{get_or-append_right, get_or-set_same, get_or-set_other}
 use Rattle.std.proofs.lemmas.Nat.{div-mul-add, mod-mul-add}
 use Rattle.std.proofs.lemmas.Slice.{between-put_mid}
@@ -219,18 +219,6 @@ part_run L rect r left right ws full lies run long =
           run_elsewhere L r left (right - left) ws r' c p full whole_run long pixel plane
           (λ row from to. other row from (omega arith));
     }
-
--- a list keeps its length when a part of it is written
-length-put_mid : (a k : ℕ) (xs ys : List ℕ) → a + k ≤ length xs → length ys ≡ k → length (put_mid a k xs ys) ≡ length xs
-length-put_mid a k xs ys within long =
-    omega (
-      arith,
-      length-append (take a xs) (ys ++ post_of a k xs),
-      length-append ys (post_of a k xs),
-      length-take-le a xs (omega arith),
-      length-drop k (drop a xs),
-      length-drop a xs,
-    )
 
 -- a whole list is where it was written
 between_mid : (a k : ℕ) (xs ys : List ℕ) → a ≤ length xs → length ys ≡ k → take k (drop a (put_mid a k xs ys)) ≡ ys
