@@ -1,4 +1,5 @@
 ghost use Rattle.std.specs.Prelude.{◌≡◌, sum};
+ghost use Rattle.ljpeg_huffman.specs.Words.{IsPrefixFree};
 
 use crate::{BitFault, Bits, CodeTable, TableFault};
 use std::test::Fail;
@@ -14,6 +15,13 @@ fn total(counts: &[u8; 16]) -> usize
         total += *count as usize;
     }
     total
+}
+
+/// No code word of a table is a prefix of another.
+fn knows_prefix_free(table: &CodeTable)
+    ensures { IsPrefixFree table.now }
+{
+    table.prefix_free();
 }
 
 /// So many code words of one bit, and so many of two.
@@ -79,6 +87,7 @@ fn reads_differences(rt: HostRuntime) -> Result<(), Fail> {
         assert_eq!(rt; values.len(), total(&counts));
         match (CodeTable::read(&counts, values), expected) {
             (Ok(table), Ok((differences, fault))) => {
+                knows_prefix_free(&table);
                 let mut bits = Bits::new(stuffed);
                 for difference in differences {
                     assert_eq!(rt; bits.next_difference(&table), Ok(*difference));
