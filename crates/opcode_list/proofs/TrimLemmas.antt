@@ -1,8 +1,8 @@
 -- Opcodes by the lists in which they may stand, and the walk over the trims of a list.
-use Rattle.std.proofs.Common.{◌≡◌, ℕ, ◌+◌, ◌<◌, ◌≤◌, ◌&&◌, ⊎_elim, Bool, true, false, nat_le, List, ◌∷◌, None, Some}
-use Rattle.std.proofs.Common.{drop, drop-cons, get_or, add-one, length, refl, sym, ◌∙◌, ap, arith}
-use Rattle.std.proofs.lemmas.Bool.{cases_lt, cond-false, cond-true, leb-true}
-use Rattle.std.proofs.lemmas.List.{drop_all}
+use Rattle.std.proofs.Common.{◌≡◌, ℕ, ◌+◌, ◌<◌, ◌≤◌, ⊎_elim, true, false, nat_le, List, ◌∷◌, None, Some, drop, get_or}
+use Rattle.std.proofs.Common.{length, sym, ◌∙◌, ap, arith}
+use Rattle.std.proofs.lemmas.Bool.{and_parts, cases_lt, cond-false, cond-true, leb-true}
+use Rattle.std.proofs.lemmas.List.{drop_all, drop_more}
 use Rattle.plane_view.specs.declared.Shape.{Shape}
 use Rattle.opcode_list.specs.Params.{CanRun, MayStandIn}
 use Rattle.opcode_list.specs.Trims.{IsPartOf, first_misfit, fits, left_after, left_by}
@@ -24,7 +24,7 @@ may_stand list id (Skipped id_) low high = tt
 
 -- an opcode that is the next one of a list
 next : {X : Type 0} (xs : List X) (k : ℕ) (x : X) → k < length xs → x ≡ get_or xs k x → drop k xs ≡ x ∷ drop (k + 1) xs
-next xs k x within is = drop-cons xs k x within ∙ (λ i. sym is i ∷ drop (sym (add-one k) i) xs)
+next xs k x within is = drop_more xs k x within ∙ ap (λ first. first ∷ drop (k + 1) xs) (sym is)
 
 -- it fits
 pub fits_on : (opcodes : List Opcode) (k : ℕ) (opcode : Opcode) (left : Shape) → k < length opcodes
@@ -59,11 +59,6 @@ pub all_left : (opcodes : List Opcode) (k : ℕ) (left : Shape) → length opcod
 unfolding left_after
 all_left opcodes k left all = ap (λ xs. left_after xs left) (drop_all k opcodes all)
 
-both : (s t : Bool) → (s && t) ≡ true → (s ≡ true) × (t ≡ true)
-both true true e = (refl, refl)
-both true false e = absurd (cc)
-both false t e = absurd (cc)
-
 -- what an opcode that fits leaves is a part
 pub part_on : (opcode : Opcode) (whole left : Shape) → CanRun opcode → fits opcode left ≡ true → IsPartOf whole left
     → IsPartOf whole (left_by opcode left)
@@ -73,13 +68,13 @@ part_on (Trim rect) whole left runs fit part = record {
   some_rows = omega (arith, runs.rows);
   rows = omega (
     arith,
-    leb-true rect.bottom left.rows (both (nat_le rect.bottom left.rows) (nat_le rect.right left.cols) fit).0,
+    leb-true rect.bottom left.rows (and_parts (nat_le rect.bottom left.rows) (nat_le rect.right left.cols) fit).0,
     part.rows,
   );
   some_cols = omega (arith, runs.cols);
   cols = omega (
     arith,
-    leb-true rect.right left.cols (both (nat_le rect.bottom left.rows) (nat_le rect.right left.cols) fit).1,
+    leb-true rect.right left.cols (and_parts (nat_le rect.bottom left.rows) (nat_le rect.right left.cols) fit).1,
     part.cols,
   );
 }
