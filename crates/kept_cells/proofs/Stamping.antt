@@ -1,6 +1,6 @@
 -- Stamps after a change.
 use Rattle.std.proofs.Common.{◌≡◌, ℕ, zero, suc, ◌+◌, ◌-◌, ◌<◌, ◌≤◌, List, [], ◌∷◌, ◌++◌, length, get_or, replicate}
-use Rattle.std.proofs.Common.{take, false, refl, ◌∙◌, ap, arith}
+use Rattle.std.proofs.Common.{take, false, ◌∙◌, ap, arith}
 use Rattle.std.proofs.lemmas.List.{get_or-replicate}
 use Rattle.tile_cache.specs.Pairs.{Cache}
 use Rattle.stage_deps.specs.Stamping.{stamped_from}
@@ -20,17 +20,6 @@ stamped_high (suc first) stamp (x ∷ xs) (suc p) high low =
     let rest : suc (length xs) - suc first ≡ length xs - first = omega arith in
     ap (λ (n : ℕ). get_or (take first xs ++ replicate n stamp) p 0) rest
     ∙ stamped_high first stamp xs p (omega arith) (omega arith)
-
--- the others keep theirs
-pub stamped_low : (first stamp : ℕ) (stamps : List ℕ) (p : ℕ) → p < first → first ≤ length stamps
-    → get_or (stamped_from first stamp stamps) p 0 ≡ get_or stamps p 0
-stamped_low zero stamp stamps p low within = absurd (omega arith)
-stamped_low (suc first) stamp [] p low within = absurd (omega arith)
-stamped_low (suc first) stamp (x ∷ xs) zero low within = refl
-stamped_low (suc first) stamp (x ∷ xs) (suc p) low within =
-    let rest : suc (length xs) - suc first ≡ length xs - first = omega arith in
-    ap (λ (n : ℕ). get_or (take first xs ++ replicate n stamp) p 0) rest
-    ∙ stamped_low first stamp xs p (omega arith) (omega arith)
 
 -- no cell of the changed planes is held at its new stamp
 pub stale_at : (c : Cache) (stamps : List ℕ) (changes first p k : ℕ) → KeysUpTo changes c.pairs → first ≤ p

@@ -7,10 +7,7 @@ use Rattle.ljpeg_huffman.specs.Differences.{further_bits, difference, SpellsOne,
 use Rattle.binary_digits.proofs.DigitLemmas.{length-bits_of, same_number, append_same_size}
 use Rattle.ljpeg_huffman.proofs.OrderLemmas.{one_word}
 
--- No bits spell no differences, and one more difference is spelled behind a list.
-pub Spells-nil : (tables : ℕ → Table) → Spells tables [] []
-Spells-nil tables = refl
-
+-- one more difference is spelled behind a list
 pub Spells-push : (values : List ℤ) (tables : ℕ → Table) (bits more : List Bool) (value : ℤ) → Spells tables bits values
     → SpellsOne (tables (length values)) more value → Spells tables (bits ++ more) (values ++ value ∷ [])
 Spells-push [] tables bits more value s one = (more, [], ap (λ x. x ++ more) s ∙ sym (append-nil more), one, refl)

@@ -1,6 +1,6 @@
 -- Lines that are decoded one after the other.
 use Rattle.std.proofs.Common.{◌≡◌, ℕ, zero, suc, ◌+◌, ◌-◌, ◌*◌, ◌%◌, ◌<◌, ◌≤◌, inl, inr, Bool, ℤ, pos, ◌+ℤ◌, List, []}
-use Rattle.std.proofs.Common.{◌++◌, length, get_or, refl, sym, ap, ap₂, ◌∙◌, subst, arith, append_assoc, length-append}
+use Rattle.std.proofs.Common.{◌++◌, length, get_or, sym, ap, ap₂, ◌∙◌, subst, arith, append_assoc, length-append}
 use Rattle.std.proofs.Math.Nat.{add-mul-mod_self_right, mul-le-mul_right}
 use Rattle.std.proofs.lemmas.Bool.{cases_lt}
 use Rattle.std.proofs.lemmas.List.{get_or-append-add, get_or-map, get_or_append_left, length-map}
@@ -10,7 +10,7 @@ use Rattle.ljpeg_huffman.specs.declared.bits.BitFault.{BitFault}
 use Rattle.ljpeg_predict.specs.inner.Lines.{IsLine}
 use Rattle.ljpeg_predict.specs.Prediction.{prediction}
 use Rattle.ljpeg_predict.specs.Scans.{Scan, components, row_length, sample_count, table_at}
-use Rattle.ljpeg_predict.specs.Streams.{IsCutShort, IsDecoded}
+use Rattle.ljpeg_predict.specs.Streams.{IsCutShort}
 use Rattle.ljpeg_predict.proofs.LongestLemmas.{Spells-append, longest}
 use Rattle.ljpeg_predict.proofs.ModuloLemmas.{modulo-add-modulo}
 use Rattle.ljpeg_predict.proofs.PredictionLemmas.{prediction_agrees}
@@ -24,17 +24,6 @@ pub record Decoded (scan : Scan) (samples : List ℕ) (lines : ℕ) (rest : List
   pub count : length values ≡ lines * row_length scan
   pub each : (k : ℕ) → k < lines * row_length scan
       → get_or samples k 0 ≡ modulo (prediction scan samples k +ℤ get_or values k (pos 0))
-
-pub nothing_decoded : (scan : Scan) (samples : List ℕ) (rest : List Bool) → rest ≡ data_bits scan.bytes
-    → Decoded scan samples 0 rest
-nothing_decoded scan samples rest e = record {
-  values = [];
-  taken = [];
-  parts = sym e;
-  spelled = refl;
-  count = omega arith;
-  each = λ k h. absurd (omega arith);
-}
 
 -- the tables' turns begin anew at each line
 pub turns_anew : (scan : Scan) (lines size : ℕ) → size ≡ lines * row_length scan
@@ -116,17 +105,6 @@ module _ (scan : Scan) (some : 0 < components scan) (samples above line more num
           (later (k - length above) (omega arith))
     ];
   }
-
--- all lines
-pub all_decoded : (scan : Scan) (samples : List ℕ) (size : ℕ) (rest : List Bool) → length samples ≡ size
-    → size ≡ sample_count scan → Decoded scan samples scan.lines rest → IsDecoded scan size samples
-all_decoded scan samples size rest long is d = record {
-  differences = d.values;
-  rest = rest;
-  begins = record { taken = d.taken; parts = d.parts; spelled = d.spelled };
-  enough = d.count ∙ sym is;
-  rebuilt = record { lengths = long ∙ is ∙ sym d.count; each = λ place h. d.each place (omega arith) };
-}
 
 -- no further line
 pub cut_short : (scan : Scan) (free : (place : ℕ) → IsPrefixFree (table_at scan place)) (samples : List ℕ)

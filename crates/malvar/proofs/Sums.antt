@@ -1,7 +1,7 @@
--- The four weighted sums of Malvar, He and Cutler as differences of two numbers, and the means as sums.
+-- The four weighted sums of Malvar, He and Cutler as differences of two numbers.
 use Rattle.std.proofs.Common.{◌≡◌, ◌+◌, ◌*◌, pos, ◌-ℤ◌, arith}
 use Rattle.std.proofs.lemmas.Int.{ints}
-use Rattle.malvar.specs.Demosaic.{malvar, bilinear}
+use Rattle.malvar.specs.Demosaic.{malvar}
 use Rattle.malvar.specs.inner.Around.{weighted}
 use Rattle.malvar.specs.declared.filters.Around.{Around}
 
@@ -20,15 +20,3 @@ in_column_sum a = omega (arith, ints)
 pub opposite_sum : (a : Around) → pos (12 * a.centre + 4 * a.diagonal) -ℤ pos (3 * (a.horizontal_far + a.vertical_far))
     ≡ weighted malvar.opposite a
 opposite_sum a = omega (arith, ints)
-
-pub green_mean : (a : Around) → pos (4 * (a.horizontal + a.vertical)) -ℤ pos 0 ≡ weighted bilinear.green a
-green_mean a = omega (arith, ints)
-
-pub in_row_mean : (a : Around) → pos (8 * a.horizontal) -ℤ pos 0 ≡ weighted bilinear.in_row a
-in_row_mean a = omega (arith, ints)
-
-pub in_column_mean : (a : Around) → pos (8 * a.vertical) -ℤ pos 0 ≡ weighted bilinear.in_column a
-in_column_mean a = omega (arith, ints)
-
-pub opposite_mean : (a : Around) → pos (4 * a.diagonal) -ℤ pos 0 ≡ weighted bilinear.opposite a
-opposite_mean a = omega (arith, ints)

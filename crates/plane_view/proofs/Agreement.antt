@@ -1,8 +1,8 @@
 -- Laws of agreement: parts with given samples, parts of a crop, and planes that agree with one.
-use Rattle.std.proofs.Common.{◌≡◌, ℕ, ◌<◌, sym, ◌∙◌, ap, subst, arith}
+use Rattle.std.proofs.Common.{◌≡◌, ℕ, ◌<◌, sym, ◌∙◌, ap, subst}
 use Rattle.plane_view.specs.declared.Rect.{Rect}
 use Rattle.plane_view.specs.Plane.{Plane, sample}
-use Rattle.plane_view.specs.Rectangles.{HasPixel, LiesIn}
+use Rattle.plane_view.specs.Rectangles.{HasPixel}
 use Rattle.plane_view.specs.Lent.{Lent, sample_at, lent_of, part_of, lent_crop, IsFull, AgreesWith}
 use Rattle.plane_view.specs.Rows.{HasSamples}
 use Rattle.plane_view.proofs.Parts.{same_parts, lent_at, part_whole}
@@ -26,16 +26,6 @@ crop_of_full P L full agrees = sym (part_whole L full) ∙ crop_of_part P L L.re
 pub crop_at : (P : Plane) (rect : Rect) (r c p : ℕ) → HasPixel rect r c → p < P.planes
     → sample_at (lent_crop P rect) r c p ≡ sample P r c p
 crop_at P rect r c p pixel plane = lent_at rect P.planes (sample P) r c p pixel plane
-
--- a plane that agrees with a part on a rectangle agrees with it on a part of that
-pub agrees_with_part : (P : Plane) (L : Lent) (rect inner : Rect) → LiesIn inner rect → AgreesWith P L rect
-    → AgreesWith P L inner
-agrees_with_part P L rect inner lies agrees =
-    record {
-      planes = agrees.planes;
-      samples = λ r c p pixel plane. agrees.samples r c p
-          (record { top = omega arith; bottom = omega arith; left = omega arith; right = omega arith }) plane;
-    }
 
 -- planes with the same samples at the pixels of a rectangle: the one agrees with the crop of the other
 pub agrees_with_crop : (P Q : Plane) (rect : Rect) → P.planes ≡ Q.planes

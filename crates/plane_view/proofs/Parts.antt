@@ -31,10 +31,6 @@ pub part_at : (L : Lent) (rect : Rect) (r c p : ℕ) → HasPixel rect r c → p
     ≡ sample_at L r c p
 part_at L rect r c p pixel plane = lent_at rect L.planes (sample_at L) r c p pixel plane
 
--- how many samples a part has
-pub length-part : (L : Lent) (rect : Rect) → IsFull (part_of L rect)
-length-part L rect = length-samples_of (height rect) (width rect) L.planes _
-
 -- a full part is the part of it in its own rectangle
 pub part_whole : (L : Lent) → IsFull L → part_of L L.rect ≡ L
 part_whole L full =

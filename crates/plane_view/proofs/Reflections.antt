@@ -15,11 +15,6 @@ reflected_inside n i h = rw (lt-ltb i n h) refl
 pub reflected_at : (n i : ℕ) (z : ℤ) → z ≡ pos i → i < n → reflected n z ≡ i
 reflected_at n i z e h = ap (reflected n) e ∙ reflected_inside n i h
 
--- what is up to 2 outside stands for something inside
-pub reflected_below : (n : ℕ) (i : ℤ) → 4 ≤ n → negsuc 1 ≤ℤ i → i ≤ℤ pos (n + 1) → reflected n i < n
-reflected_below n (pos i) size low high = grind (arith, ints, nat_tests)
-reflected_below n (negsuc i) size low high = grind (arith, ints, nat_tests)
-
 -- number i is within so many of c, and one of n
 pub record IsWithin (n c by i : ℕ) : Type 0 where
   pub low : c ≤ i + by

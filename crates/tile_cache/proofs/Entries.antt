@@ -14,10 +14,10 @@ use Rattle.lru.proofs.CallerLemmas.{Contains-lookup_entry}
 use Rattle.lru.proofs.Pairs.{lookup-lookup_entry}
 use Rattle.tile_cache.specs.Pairs.{Cache, Pair}
 use Rattle.tile_cache.specs.Kept.{kept, has_room, put_in}
-use Rattle.tile_cache.specs.Cache.{after_drops, after_put, cache, same_key, size, sizes, total_size}
+use Rattle.tile_cache.specs.Cache.{after_drops, after_put, cache, same_key, size, sizes}
 use Rattle.tile_cache.specs.inner.Inside.{Entry, entry_size, pair_of}
 use Rattle.tile_cache.specs.declared.Key.{Key}
-use Rattle.tile_cache.proofs.Kept.{dropped_until-take, kept-map, put_in-map, sum_by-kept}
+use Rattle.tile_cache.proofs.Kept.{dropped_until-take, kept-map, put_in-map}
 
 -- ---- looking up
 
@@ -137,9 +137,6 @@ lookup-promoted {K} {X} test es = go (lookup_entry test es) refl
     go (Some e) is = let f = found test es e is in rw (f.0, f.1) refl
 
 -- ---- sums
-
-pub total_size-pairs : (es : List Entry) → total_size (map pair_of es) ≡ sum_by entry_size es
-total_size-pairs es = sum_by-kept pair_of entry_size size (λ e. refl) es
 
 -- the last one and those before it
 popped_at : (f : Entry → ℕ) (m : ℕ) (es : List Entry) (e : Entry) → length es ≡ suc m → slice_get es m ≡ Some e
