@@ -82,18 +82,6 @@ short_is span high low half shift x is short within =
     let factor = subst (λ (h : ℕ). IsFactor span h (high * 2 ^ 32 + low)) now is.factor in
     quotient_is span (2 ^ 47) (high * 2 ^ 32 + low) x is.some (omega (arith, is.wide, now)) factor within
 
--- that product has 64 bits
-pub short_fits : (span high low half shift x : ℕ) → IsScale span high low half shift → shift ≡ 16 → x ≤ span
-    → x * (high * 2 ^ 32 + low) + 2 ^ 47 < 2 ^ 64
-short_fits span high low half shift x is short within =
-    let now : half ≡ 2 ^ 47 = half_of_short half shift is.half_is short in
-    let factor : ℕ = high * 2 ^ 32 + low in
-    let least : x * factor ≤ span * factor = mul-le x factor span factor within (omega arith) in
-    let most : factor * span ≤ 65535 * (2 * half) + span = is.factor.high in
-    let turned : span * factor ≡ factor * span = omega arith in
-    let few : span < 2 ^ 29 = is.most in
-    omega arith
-
 -- a part is one of 65535
 pub part_small : (span x : ℕ) → 1 ≤ span → x ≤ span → part_of span x ≤ 65535
 part_small span x some within =

@@ -1,5 +1,5 @@
 -- Looking up places.
-use Rattle.std.proofs.Common.{◌≡◌, ℕ, ◌-◌, ◌<◌, ◌≤◌, ◌==◌, ◌≢◌, true, false, List, length, get_or, Option, Some, refl}
+use Rattle.std.proofs.Common.{◌≡◌, ℕ, ◌-◌, ◌<◌, ◌≤◌, ◌==◌, ◌≢◌, true, false, List, length, get_or, Option, refl}
 use Rattle.std.proofs.Common.{sym, ◌∙◌, ap, subst, inl, inr, ⊎_elim, arith}
 use Rattle.std.specs.List.{list_any, slice_get}
 use Rattle.std.proofs.lemmas.Option.{slice_get-get_or, slice_get_past}
@@ -21,15 +21,6 @@ has_none xs at none =
 -- what an element is
 pub has_one : (xs : List ℕ) (at k : ℕ) → k < length xs → get_or xs k 0 ≡ at → list_any (λ x. x == at) xs ≡ true
 has_one xs at k within same = list_any_at (λ x. x == at) xs k 0 within ((Decides-eqb (get_or xs k 0) at).1 same)
-
--- a number that is there
-pub first_found : (xs : List ℕ) (low at : ℕ) → at < length xs → get_or xs at 0 ≡ low → IsFirstPlace xs low (Some low)
-first_found xs low at within same = record {
-  not_below = omega arith;
-  listed = has_one xs low at within same;
-  least = λ k inside. ⊎_elim (λ (lt : get_or xs k 0 < low). inl lt) (λ (ge : low ≤ get_or xs k 0). inr ge)
-      (cases_lt (get_or xs k 0) low);
-}
 
 -- the number at which those that aren't below begin
 pub first_place : (xs : List ℕ) (low at : ℕ) → IsRising xs → at ≤ length xs → ((k : ℕ) → k < at → get_or xs k 0 < low)

@@ -1,7 +1,7 @@
 -- Multiples of a pitch, and the numbers between them.
 use Rattle.std.proofs.Common.{◌≡◌, ℕ, ◌+◌, ◌-◌, ◌*◌, ◌/◌, ◌%◌, ◌<◌, ◌≤◌, ◌∙◌, ap, arith}
 use Rattle.std.proofs.lemmas.Nat.{div-add-mod', mod-mul-add, mod_below}
-use Rattle.std.proofs.Math.Nat.{zero-mod, mul-add-mod_self_right}
+use Rattle.std.proofs.Math.Nat.{mul-add-mod_self_right}
 use Rattle.opcode_stages.specs.inner.MapRows.{IsFirstFrom}
 
 -- short of the next multiple
@@ -24,24 +24,6 @@ past_mod a b m multiple =
     let whole : a / m * m + a % m ≡ a = div-add-mod' a m in
     let same : a + b ≡ a / m * m + b = omega (arith, whole, multiple) in
     ap (λ n. n % m) same ∙ mul-add-mod_self_right (a / m) m b
-
--- the start itself
-pub first_start : (start pitch low : ℕ) → low ≤ start → IsFirstFrom start pitch low start
-first_start start pitch low below = record {
-  not_before = omega arith;
-  not_below = below;
-  stepped = (let none : start - start ≡ 0 = omega arith in ap (λ n. n % pitch) none ∙ zero-mod pitch);
-  least = λ k from above under step. absurd (omega arith);
-}
-
--- the bound itself
-pub first_low : (start pitch low : ℕ) → start ≤ low → (low - start) % pitch ≡ 0 → IsFirstFrom start pitch low low
-first_low start pitch low above step = record {
-  not_before = above;
-  not_below = omega arith;
-  stepped = step;
-  least = λ k from at under step'. absurd (omega arith);
-}
 
 -- the next one after the bound
 pub first_past : (start pitch low past : ℕ) → start ≤ low → 0 < pitch → past ≡ (low - start) % pitch → 0 < past
