@@ -10,7 +10,7 @@ use Rattle.dev_settings.specs.Settings.{changed}
 use Rattle.dev_settings.specs.declared.settings.Change.{Change}
 use Rattle.dev_settings.specs.declared.settings.Change.TheVariants as key
 use Rattle.dev_settings.specs.declared.settings.Settings.{Settings}
-use Rattle.dev_stages.specs.Changes.{AreLike, Becomes, Refuses, Replaces, balance_number, demosaic_number}
+use Rattle.dev_stages.specs.Changes.{AreLike, Becomes, Replaces, balance_number, demosaic_number}
 use Rattle.dev_stages.specs.Changes.{linear_number, linear_or, matrix_or, number_of, replaced, touched}
 use Rattle.dev_stages.specs.Listed.{listed}
 use Rattle.dev_stages.specs.Plans.{balance_stage, chosen_matrix, demosaic_stage, in_order, linear_stage, planned}
@@ -51,15 +51,6 @@ planned_ok frame settings matrix linear = by_matrix (chosen_matrix frame.colour 
         → planned_with frame settings chosen ≡ Ok (with_these frame settings matrix linear)
     by_matrix None m l = absurd (cc)
     by_matrix (Some entries) m l = by_span entries (int_lt (pos 0) (span_under frame settings)) m l
-
-pub planned_none : (frame : Frame) (settings : Settings) (refusal : PlanFault)
-    → matrix_or (chosen_matrix frame.colour settings.matrix) ≡ Err refusal → planned frame settings ≡ Err refusal
-planned_none frame settings refusal = by_matrix (chosen_matrix frame.colour settings.matrix)
-  where
-    by_matrix : (chosen : Option (List ℤ)) → matrix_or chosen ≡ Err refusal → planned_with frame settings chosen
-        ≡ Err refusal
-    by_matrix None m = ap Err (fault_is fault.Matrix refusal m)
-    by_matrix (Some entries) m = absurd (cc)
 
 pub planned_low : (frame : Frame) (settings : Settings) (matrix : DevStage) (refusal : PlanFault)
     → matrix_or (chosen_matrix frame.colour settings.matrix) ≡ Ok matrix → linear_or frame settings ≡ Err refusal
@@ -445,25 +436,3 @@ replaces frame change after number stage is t before stages same planned_before 
     (subst (λ (settings : Settings). Becomes frame settings stages (number_of frame change) stage) (sym same)
     (becomes frame change before stages stage planned_before
     (subst (λ (settings : Settings). touched frame settings change ≡ Ok stage) same t)))
-
--- there are no stages where the one that is touched is refused
-are_refused : (frame : Frame) (change : Change) (before : Settings) (stages : List DevStage) (refusal : PlanFault)
-    → Has frame before stages → touched frame (changed change before) change ≡ Err refusal
-    → planned frame (changed change before) ≡ Err refusal
-are_refused frame (key.Black black) before stages refusal h t = planned_low frame (changed (key.Black black) before)
-    (Matrix h.matrix) refusal (ap matrix_or h.chosen) t
-are_refused frame (key.White white) before stages refusal h t = planned_low frame (changed (key.White white) before)
-    (Matrix h.matrix) refusal (ap matrix_or h.chosen) t
-are_refused frame (key.Demosaic kind) before stages refusal h t = absurd (cc)
-are_refused frame (key.Wb gains) before stages refusal h t = absurd (cc)
-are_refused frame (key.Exposure exposure) before stages refusal h t = absurd (cc)
-are_refused frame (key.Matrix choice) before stages refusal h t =
-    planned_none frame (changed (key.Matrix choice) before) refusal t
-are_refused frame (key.Tone curve) before stages refusal h t = absurd (cc)
-
-pub refuses : (frame : Frame) (change : Change) (after : Settings) (refusal : PlanFault)
-    → touched frame after change ≡ Err refusal → Refuses frame change after refusal
-refuses frame change after refusal t before stages same planned_before =
-    subst (λ (settings : Settings). planned frame settings ≡ Err refusal) (sym same)
-    (are_refused frame change before stages refusal (has frame before stages planned_before)
-    (subst (λ (settings : Settings). touched frame settings change ≡ Err refusal) same t))

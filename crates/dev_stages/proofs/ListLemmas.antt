@@ -1,21 +1,20 @@
 -- Walks over the opcodes of a list, and the shapes that their stages take.
-use Rattle.std.proofs.Common.{◌≡◌, ℕ, ◌+◌, ◌*◌, ◌%◌, ◌<◌, ◌≤◌, ◌⊎◌, ⊎_elim, inl, inr, true, false, nat_le, All, List}
-use Rattle.std.proofs.Common.{[], ◌∷◌, ◌++◌, slice_index, Option, None, Some, drop, get_or, length, refl, sym, ◌∙◌, ap}
+use Rattle.std.proofs.Common.{◌≡◌, ℕ, ◌+◌, ◌<◌, ◌≤◌, ◌⊎◌, ⊎_elim, true, false, nat_le, All, List}
+use Rattle.std.proofs.Common.{[], ◌∷◌, ◌++◌, Option, None, Some, drop, get_or, length, refl, sym, ◌∙◌, ap}
 use Rattle.std.proofs.Common.{subst, arith}
 use Rattle.std.specs.List.{cons_option}
-use Rattle.std.proofs.lemmas.Bool.{and_parts, cases_Bool, cases_lt, cond-false, cond-true, leb-true}
+use Rattle.std.proofs.lemmas.Bool.{and_parts, cases_Bool, cond-false, cond-true, leb-true}
 use Rattle.std.specs.Option.{option_to_list}
 use Rattle.std.proofs.lemmas.List.{append_assoc, drop_all, drop_more}
-use Rattle.std.proofs.lemmas.List.Elements.{All-get_or, All-head, All-tail, All-weaker}
+use Rattle.std.proofs.lemmas.List.Elements.{All-head, All-tail, All-weaker}
 use Rattle.plane_view.specs.declared.Shape.{Shape}
 use Rattle.stage_chain.specs.Chains.{TakeInTurn}
 use Rattle.opcode_list.specs.Params.{CanRun, CanRunIn}
 use Rattle.opcode_list.specs.Trims.{IsPartOf, first_misfit, fits, left_after, left_by}
 use Rattle.opcode_list.specs.declared.opcode.Opcode.{Opcode}
 use Rattle.opcode_list.specs.declared.opcode.Opcode.TheVariants.{FixConstant, FixList, Map, Skipped, Trim}
-use Rattle.malvar.specs.Pattern.{IsBayer}
 use Rattle.opcode_list.proofs.TrimLemmas.{part_on}
-use Rattle.dev_stages.specs.Listed.{listed, moved_by, opcode_stage}
+use Rattle.dev_stages.specs.Listed.{listed, opcode_stage}
 use Rattle.dev_stages.specs.Members.{shaped_of, takes_of}
 use Rattle.dev_stages.specs.declared.stage.DevStage.{DevStage}
 
@@ -62,69 +61,6 @@ counted_on opcodes k opcode within is = ap length (listed_on opcodes k opcode wi
 pub all_listed : (opcodes : List Opcode) (k : ℕ) → length opcodes ≤ k → listed (drop k opcodes) ≡ []
 unfolding listed
 all_listed opcodes k all = ap listed (drop_all k opcodes all)
-
--- it can be run
-pub runs_at : (opcodes : List Opcode) (k : ℕ) (opcode : Opcode) → k < length opcodes → opcode ≡ get_or opcodes k opcode
-    → All CanRun opcodes → CanRun opcode
-runs_at opcodes k opcode within is runs = subst CanRun (sym is) (All-get_or CanRun opcodes k opcode within runs)
-
--- the colours of a pattern that is moved, by what is left of the rows and the columns at a division by 2
-abbrev moved_to : List ℕ → (top below left right : ℕ) → List ℕ
-moved_to cfa top below left right =
-    slice_index cfa (top * 2 + left) ∷ slice_index cfa (top * 2 + right) ∷ slice_index cfa (below * 2 + left) ∷
-    slice_index cfa (below * 2 + right) ∷ []
-
--- a pattern stays, or is moved by a row, by a column, or by both
-stays : (cfa : List ℕ) → IsBayer cfa → IsBayer (moved_to cfa 0 1 0 1)
-stays cfa (inl e) = inl (ap (λ xs. moved_to xs 0 1 0 1) e)
-stays cfa (inr (inl e)) = inr (inl (ap (λ xs. moved_to xs 0 1 0 1) e))
-stays cfa (inr (inr (inl e))) = inr (inr (inl (ap (λ xs. moved_to xs 0 1 0 1) e)))
-stays cfa (inr (inr (inr e))) = inr (inr (inr (ap (λ xs. moved_to xs 0 1 0 1) e)))
-
-by_row : (cfa : List ℕ) → IsBayer cfa → IsBayer (moved_to cfa 1 0 0 1)
-by_row cfa (inl e) = inr (inr (inr (ap (λ xs. moved_to xs 1 0 0 1) e)))
-by_row cfa (inr (inl e)) = inr (inr (inl (ap (λ xs. moved_to xs 1 0 0 1) e)))
-by_row cfa (inr (inr (inl e))) = inr (inl (ap (λ xs. moved_to xs 1 0 0 1) e))
-by_row cfa (inr (inr (inr e))) = inl (ap (λ xs. moved_to xs 1 0 0 1) e)
-
-by_column : (cfa : List ℕ) → IsBayer cfa → IsBayer (moved_to cfa 0 1 1 0)
-by_column cfa (inl e) = inr (inr (inl (ap (λ xs. moved_to xs 0 1 1 0) e)))
-by_column cfa (inr (inl e)) = inr (inr (inr (ap (λ xs. moved_to xs 0 1 1 0) e)))
-by_column cfa (inr (inr (inl e))) = inl (ap (λ xs. moved_to xs 0 1 1 0) e)
-by_column cfa (inr (inr (inr e))) = inr (inl (ap (λ xs. moved_to xs 0 1 1 0) e))
-
-by_both : (cfa : List ℕ) → IsBayer cfa → IsBayer (moved_to cfa 1 0 1 0)
-by_both cfa (inl e) = inr (inl (ap (λ xs. moved_to xs 1 0 1 0) e))
-by_both cfa (inr (inl e)) = inl (ap (λ xs. moved_to xs 1 0 1 0) e)
-by_both cfa (inr (inr (inl e))) = inr (inr (inr (ap (λ xs. moved_to xs 1 0 1 0) e)))
-by_both cfa (inr (inr (inr e))) = inr (inr (inl (ap (λ xs. moved_to xs 1 0 1 0) e)))
-
--- a row or a column, and the next one, where the first is even or odd
-abbrev Parity : ℕ → Type 0
-Parity n = ((0 ≡ n % 2) × (1 ≡ (1 + n) % 2)) ⊎ ((1 ≡ n % 2) × (0 ≡ (1 + n) % 2))
-
-parity : (n : ℕ) → Parity n
-parity n =
-    ⊎_elim (λ (h : n % 2 < 1). inl (omega (arith, h), omega (arith, h)))
-    (λ (h : 1 ≤ n % 2). inr (omega (arith, h), omega (arith, h))) (cases_lt (n % 2) 1)
-
-bayer_at : (cfa : List ℕ) (top left : ℕ) → IsBayer cfa → Parity top → Parity left
-    → IsBayer (moved_to cfa (top % 2) ((1 + top) % 2) (left % 2) ((1 + left) % 2))
-bayer_at cfa top left is (inl r) (inl c) = subst IsBayer (λ i. moved_to cfa (r.0 i) (r.1 i) (c.0 i) (c.1 i))
-    (stays cfa is)
-bayer_at cfa top left is (inr r) (inl c) = subst IsBayer (λ i. moved_to cfa (r.0 i) (r.1 i) (c.0 i) (c.1 i))
-    (by_row cfa is)
-bayer_at cfa top left is (inl r) (inr c) = subst IsBayer (λ i. moved_to cfa (r.0 i) (r.1 i) (c.0 i) (c.1 i))
-    (by_column cfa is)
-bayer_at cfa top left is (inr r) (inr c) = subst IsBayer (λ i. moved_to cfa (r.0 i) (r.1 i) (c.0 i) (c.1 i))
-    (by_both cfa is)
-
-pub bayer_on : (opcode : Opcode) (cfa : List ℕ) → IsBayer cfa → IsBayer (moved_by opcode cfa)
-bayer_on (FixConstant constant phase) cfa is = is
-bayer_on (FixList phase points rects) cfa is = is
-bayer_on (Trim rect) cfa is = bayer_at cfa rect.top rect.left is (parity rect.top) (parity rect.left)
-bayer_on (Map rect plane planes row_pitch col_pitch table) cfa is = is
-bayer_on (Skipped id) cfa is = is
 
 -- the first opcode of a list in which no trim is a misfit, and those behind it
 abbrev FitsThen : ℕ → Opcode → List Opcode → Shape → Type 0

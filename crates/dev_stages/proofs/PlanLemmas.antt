@@ -1,9 +1,8 @@
 -- The stages of a frame, and the shapes that they take.
-use Rattle.std.proofs.Common.{◌≡◌, ℕ, ◌<◌, ◌≤◌, Bool, true, false, List, [], ◌∷◌, ◌++◌, All, IfSome, length}
-use Rattle.std.proofs.Common.{slice_index, Option, ℤ, pos, ◌≤ℤ◌, ◌<ℤ◌, int_lt, None, Some, Ok, Err, refl, sym, ◌∙◌, ap}
+use Rattle.std.proofs.Common.{◌≡◌, ℕ, ◌<◌, ◌≤◌, Bool, true, false, List, [], ◌∷◌, ◌++◌}
+use Rattle.std.proofs.Common.{ℤ, pos, ◌≤ℤ◌, ◌<ℤ◌, int_lt, Ok, Err, refl, sym, ◌∙◌, ap}
 use Rattle.std.proofs.Common.{subst, arith, ◌↔◌, ◌≢◌}
-use Rattle.std.specs.Prelude.{unwrap_or}
-use Rattle.std.proofs.lemmas.List.{append_assoc, get_or_default}
+use Rattle.std.proofs.lemmas.List.{append_assoc}
 use Rattle.std.proofs.lemmas.Bool.{cond-false, cond-true}
 use Rattle.std.proofs.lemmas.Int.{ints}
 use Rattle.std.proofs.lemmas.List.FromFn.{fill_by_all}
@@ -12,12 +11,6 @@ use Rattle.opcode_list.specs.Trims.{IsPartOf, left_after}
 use Rattle.dng_tags.specs.Facts.{IsFrame}
 use Rattle.dng_tags.specs.Listed.{after_list1, after_list2, area_shape, coloured_shape}
 use Rattle.dng_tags.specs.declared.record.Frame.{Frame}
-use Rattle.malvar.specs.declared.Kind.{Kind}
-use Rattle.malvar.specs.declared.pattern.Pattern.{Pattern}
-use Rattle.malvar.specs.declared.pattern.Pattern.TheVariants.{RedGreenGreenBlue, BlueGreenGreenRed, GreenRedBlueGreen}
-use Rattle.malvar.specs.declared.pattern.Pattern.TheVariants.{GreenBlueRedGreen}
-use Rattle.malvar.specs.declared.stage.Demosaic.{Demosaic}
-use Rattle.malvar.specs.Mosaics.{cfa_of, colours_of, kind_of}
 use Rattle.tone_table.specs.declared.Curve.{Curve}
 use Rattle.tone_table.specs.Tones.{IsTableOf, toned_at}
 use Rattle.dev_settings.specs.declared.settings.Settings.{Settings}
@@ -26,7 +19,6 @@ use Rattle.opcode_stages.specs.Crops.{cropped_shape}
 use Rattle.linearise.specs.Parameters.{Parameters, parameters}
 use Rattle.linearise.specs.declared.fault.LineariseFault.{LineariseFault}
 use Rattle.linearise.specs.declared.fault.LineariseFault.TheVariants as linearise
-use Rattle.colour_matrix.specs.Balances.{IsGain}
 use Rattle.dev_stages.specs.declared.stage.DevStage.{DevStage}
 use Rattle.dev_stages.specs.declared.stage.DevStage.TheVariants as stage
 use Rattle.dev_stages.specs.Changes.{linear_or}
@@ -35,7 +27,7 @@ use Rattle.dev_stages.specs.Members.{shaped_of, takes_of}
 use Rattle.dev_stages.specs.Plannable.{IsPlannable}
 use Rattle.dev_stages.specs.inner.Faults.{linear_fault}
 use Rattle.dev_stages.specs.Plans.{balance_stage, curve_table, demosaic_stage, in_order, levels_under, linear_stage}
-use Rattle.dev_stages.specs.Plans.{mosaic, pattern_of, planned, span_under, stages_with, tone_stage}
+use Rattle.dev_stages.specs.Plans.{planned, span_under, stages_with, tone_stage}
 use Rattle.dev_stages.specs.declared.fault.PlanFault.TheVariants as fault
 use Rattle.dev_stages.proofs.ChangeLemmas.{has, last_four}
 use Rattle.dev_stages.proofs.ListLemmas.{all_run, left_part, listed_then, planes_left}
@@ -45,17 +37,6 @@ pub table_is : (curve : Curve) (table : List ℕ) → IsTableOf curve table → 
 unfolding curve_table
 table_is curve table is =
     fill_by_all (toned_at curve) table 65536 0 is.long is.entries
-
--- a pattern is the one with its colours
-pattern_is : (pattern : Pattern) → pattern ≡ pattern_of (colours_of pattern)
-pattern_is RedGreenGreenBlue = refl
-pattern_is BlueGreenGreenRed = refl
-pattern_is GreenRedBlueGreen = refl
-pattern_is GreenBlueRedGreen = refl
-
-pub mosaic_is : (d : Demosaic) (kind : Kind) (cfa : List ℕ) → kind_of d ≡ kind → cfa_of d ≡ cfa → d ≡ mosaic kind cfa
-mosaic_is d kind cfa is-kind is-cfa =
-    λ i. record { kind = is-kind i; pattern = (pattern_is d.pattern ∙ ap pattern_of is-cfa) i }
 
 -- the stages behind list 3
 abbrev behind_list3 : Frame → Settings → List ℤ → List DevStage
@@ -163,29 +144,6 @@ pub linear_refused : (frame : Frame) (settings : Settings) (refusal : LineariseF
     → linear_or frame settings ≡ Err (linear_fault refusal)
 linear_refused frame settings linearise.Levels is other = linear_low frame settings (is.0 refl)
 linear_refused frame settings linearise.Memory is other = absurd (other refl)
-
--- gains of settings, or a frame's own
-pub gains_in_range : (wb : Option (List ℕ)) (own got : List ℕ) → IfSome wb (All IsGain) → length got ≡ 3
-    → ((k : ℕ) → k < 3 → (1 ≤ slice_index own k) × (slice_index own k ≤ 1048576)) → got ≡ unwrap_or wb own
-    → All IsGain got
-gains_in_range (Some gains) own got told long is e = subst (All IsGain) (sym e) told
-gains_in_range None own got told long is e = λ k d h.
-    let own_is : IsGain (slice_index got k) = subst (λ (xs : List ℕ). IsGain (slice_index xs k)) (sym e)
-    (is k (omega (arith, h, long))) in
-    subst IsGain (get_or_default got k 0 d h) own_is
-
--- stages that were pushed one after the other
-pub pushed_raw : (none one two : List DevStage) (a b : DevStage) → none ≡ []
-    → (((none ++ one) ++ a ∷ []) ++ b ∷ []) ++ two ≡ one ++ (a ∷ b ∷ two)
-pushed_raw none one two a b is = rw is (simp append_assoc refl)
-
-pub pushed_coloured : (before three : List DevStage) (a b : DevStage)
-    → ((before ++ a ∷ []) ++ three) ++ b ∷ [] ≡ before ++ (a ∷ (three ++ (b ∷ [])))
-pushed_coloured before three a b = simp append_assoc refl
-
-pub pushed_last : (before : List DevStage) (a b c : DevStage)
-    → ((before ++ a ∷ []) ++ b ∷ []) ++ c ∷ [] ≡ before ++ (a ∷ b ∷ c ∷ [])
-pushed_last before a b c = simp append_assoc refl
 
 -- the parts of the stages, one behind the other
 pub in_parts : (frame : Frame) (linear demosaic balance matrix tone : DevStage)
