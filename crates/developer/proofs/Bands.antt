@@ -47,13 +47,6 @@ module _ {S : Type 0} (stands_for : S → List ℕ → Type 0) (faults : S → �
 
   module _ (now : S) (piece : List ℕ) (written top : ℕ) (so-far : InBands stands_for faults first now heads piece
       written format P rect top) where
-    -- few bytes were written
-    pub bands_few : length heads ≤ 256 → written < 2 ^ 60
-    bands_few short =
-        let rows : top - rect.top ≤ 8192 = omega (arith, so-far.before, within.bottom, developed.rows) in
-        let cols : rect.right - rect.left ≤ 8192 = omega (arith, within.right, developed.cols) in
-        omega (arith, so-far.number, few_of_band (top - rect.top) (rect.right - rect.left) rows cols)
-
     module _ (band : Rect) (left : band.left ≡ rect.left) (right : band.right ≡ rect.right) (is-top : band.top ≡ top)
         (order : band.top < band.bottom) (low : band.bottom ≤ rect.bottom) where
       -- the band lies within the plane

@@ -1,6 +1,6 @@
 -- The bands of a rectangle, and the session after some of them.
-use Rattle.std.proofs.Common.{◌≡◌, ℕ, zero, suc, ◌+◌, ◌-◌, ◌*◌, ◌/◌, ◌%◌, ◌<◌, ◌≤◌, max, min, ◌⊎◌, inl, inr, Ok, List}
-use Rattle.std.proofs.Common.{[], ◌∷◌, ◌++◌, map, length, refl, sym, ◌∙◌, ap, subst, append_assoc, arith}
+use Rattle.std.proofs.Common.{◌≡◌, ℕ, zero, suc, ◌+◌, ◌-◌, ◌*◌, ◌/◌, ◌<◌, ◌≤◌, max, min, ◌⊎◌, inl, inr, Ok, List}
+use Rattle.std.proofs.Common.{[], ◌∷◌, ◌++◌, map, refl, sym, ◌∙◌, ap, subst, arith}
 use Rattle.std.specs.List.{range_with_len}
 use Rattle.std.proofs.Math.Nat.{mul-le-mul_right}
 use Rattle.std.proofs.lemmas.List.{append-nil}
@@ -11,7 +11,7 @@ use Rattle.stage_deps.specs.Grids.{cells_along}
 use Rattle.stage_deps.proofs.GridCells.{cell_begins}
 use Rattle.region_session.specs.Sessions.{Opened as Session}
 use Rattle.dev_stages.specs.declared.stage.DevStage.{DevStage}
-use Rattle.developer.specs.Answered.{AreMade, IsCut, IsRefused, MadeUpTo}
+use Rattle.developer.specs.Answered.{AreMade, IsRefused, MadeUpTo}
 use Rattle.developer.specs.Develop.{IsInForce, StagesStay}
 use Rattle.developer.specs.Sessions.{InForce, after_band, after_bands, band_at, bands_of, cells_of_band, cells_of_bands}
 use Rattle.developer.specs.Sessions.{in_force}
@@ -175,11 +175,6 @@ module _ (side : ℕ) (rect : Rect) where
       ∙ (ap (map (band_at side rect)) (counted (rect.top / side) n m)
       ∙ (map_two (band_at side rect) (range_with_len (rect.top / side) n) (range_with_len (rect.top / side + n) m)
       ∙ ap (λ (j : ℕ). bands_to side rect k ++ map (band_at side rect) (range_with_len j m)) at)))
-
-  -- below the last row of cells all bands were
-  pub bands_to_end : rect.top / side ≤ cells_along rect.bottom side → bands_to side rect (cells_along rect.bottom side)
-      ≡ bands_of side rect
-  bands_to_end low = refl
 
   module _ (some : 0 < side) (order : rect.top < rect.bottom) where
     -- the rectangle meets at least one row of cells

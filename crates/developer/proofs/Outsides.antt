@@ -1,16 +1,9 @@
 -- Bytes that a sink takes, bytes that a source gives, and counts of faults, over one call after another.
-use Rattle.std.proofs.Common.{◌≡◌, ℕ, ◌≤◌, inl, inr, List, [], ◌++◌, length, take, drop, Option, None, Some, refl, sym}
-use Rattle.std.proofs.Common.{◌∙◌, ap, subst, append_assoc, arith}
+use Rattle.std.proofs.Common.{ℕ, ◌≤◌, inl, inr, List, [], ◌++◌, take, drop, Option, None, Some, sym}
+use Rattle.std.proofs.Common.{subst, append_assoc, arith}
 use Rattle.std.specs.Prelude.{IfSome}
-use Rattle.std.proofs.lemmas.Bool.{cases_lt}
-use Rattle.std.proofs.lemmas.List.{append-nil, nil_from_length, take-append-drop}
-use Rattle.raw_io.specs.Outside.{Appends, IsPrefixOf, Rises, Takes}
-
--- a count that rose first has risen after more
-pub rises_first : (before mid now : ℕ) → before ≤ mid → mid ≤ now → Rises before mid → Rises before now
-rises_first before mid now h k (inl r) = inl (omega arith)
-rises_first before mid now h k (inr r) =
-    elim (cases_lt mid now) [ inl lt ↦ inl (omega arith) | inr le ↦ inr (omega arith) ]
+use Rattle.std.proofs.lemmas.List.{append-nil, take-append-drop}
+use Rattle.raw_io.specs.Outside.{Appends, IsPrefixOf, Rises}
 
 -- a count that rose last has risen from before
 pub rises_last : (before mid now : ℕ) → before ≤ mid → Rises mid now → Rises before now

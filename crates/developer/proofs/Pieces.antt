@@ -3,7 +3,6 @@ use Rattle.std.proofs.Common.{◌≡◌, ℕ, ◌+◌, ◌*◌, ◌<◌, List, [
 use Rattle.std.proofs.Common.{◌∙◌, ap, append_assoc, arith, length-append}
 use Rattle.std.proofs.lemmas.List.{append-nil, take-append-drop}
 use Rattle.dev_settings.specs.declared.format.Format.{Format}
-use Rattle.dev_settings.specs.declared.format.Format.TheVariants.{Ppm, Tiff}
 use Rattle.image_out.specs.Image.{pixels_of}
 use Rattle.image_out.proofs.ImageLaws.{pixels_of-append}
 use Rattle.developer.specs.inner.Pieces.{InPieces}
@@ -73,32 +72,8 @@ pub record Appended {S : Type 0} (stands_for : S → List ℕ → Type 0) (fault
 pub cut_at : (n : ℕ) (rest row below : List ℕ) → row ≡ take n rest → below ≡ drop n rest → rest ≡ row ++ below
 cut_at n rest row below is-row is-below = sym (rw (is-row, is-below) (take-append-drop n rest))
 
--- no byte of an empty list of samples
-no_pixels : (format : Format) → pixels_of format [] ≡ []
-no_pixels Ppm = refl
-no_pixels Tiff = refl
-
 module _ {S : Type 0} (stands_for : S → List ℕ → Type 0) (faults : S → ℕ) (format : Format) (start : S)
     (samples held : List ℕ) (before : ℕ) where
-  -- none yet
-  pub appended_none : length held < 65536 → Appended stands_for faults format start start samples samples held held
-      before before
-  appended_none room = record {
-    prefix = [];
-    parts = refl;
-    pieces = λ first all h. pieces_same stands_for faults first start all (all ++ pixels_of format []) held before
-        (sym (append-nil all) ∙ ap (λ (bytes : List ℕ). all ++ bytes) (sym (no_pixels format))) h;
-    room = room;
-    number = omega arith;
-  }
-
-  -- all of them
-  pub appended_all : (now : S) (rest piece : List ℕ) (written : ℕ) → rest ≡ []
-      → (so-far : Appended stands_for faults format start now samples rest held piece before written)
-      → so-far.prefix ≡ samples
-  appended_all now rest piece written none so-far = sym (append-nil so-far.prefix)
-      ∙ (ap (λ (xs : List ℕ). so-far.prefix ++ xs) (sym none) ∙ so-far.parts)
-
   module _ (now : S) (rest piece : List ℕ) (written : ℕ) (so-far : Appended stands_for faults format start now samples
       rest held piece before written)
       (row below pushed : List ℕ) (cut : rest ≡ row ++ below) (is : pushed ≡ piece ++ pixels_of format row) where

@@ -47,12 +47,7 @@ cause_is written Write = refl
 cause_is written Memory = refl
 
 module _ {S : Type 0} (stands_for : S → List ℕ → Type 0) (faults : S → ℕ) (old new : S) (bytes : List ℕ) where
-  -- a whole answer was written
-  pub appended_ok : (n : ℕ) → Writes {T = ℕ} stands_for faults old new bytes (λ k. k) (Ok n)
-      → Appended {T = ⊤} stands_for faults old new bytes (Ok tt)
-  appended_ok n w = record { whole = w.whole; prefix = tt; calm = w.calm; counts = w.counts; cause = tt }
-
-  -- or a prefix
+  -- a prefix of an answer was written
   pub appended_err : (stop : Stop) → Writes {T = ℕ} stands_for faults old new bytes (λ k. k) (Err stop)
       → Appended {T = ⊤} stands_for faults old new bytes (Err (fault_by stop))
   appended_err stop w = record {
@@ -112,11 +107,6 @@ region_stays (Err stop) old new bands before after made left = up_to_stays stop.
 pub set_command : (now : InForce) (change : Change) → command_answer now (Ok (Set change)) ≡ set_answer now change
 unfolding command_answer
 set_command now change = refl
-
--- nothing but the sink changed
-pub left_same : (cause : Cause) (now : InForce) (answer : Answer InForce) (bands : List Rect) (work : ℕ)
-    → LeftAfter cause now answer bands now work work
-left_same cause now answer bands work = inl (refl, none_made cause now.session bands work)
 
 -- what is in force is as before, or as after the answer
 pub left_either : (cause : Cause) (old new : InForce) (answer : Answer InForce) (work : ℕ) → new ≡ old

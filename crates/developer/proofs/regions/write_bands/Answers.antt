@@ -14,7 +14,7 @@ use Rattle.developer.specs.inner.Pieces.{InPieces}
 use Rattle.developer.specs.Sessions.{bands_of}
 use Rattle.developer.specs.inner.Writes.{Writes, by_write}
 use Rattle.developer.specs.declared.writing.Cause.TheVariants.{Memory}
-use Rattle.developer.proofs.Bands.{InBands, band_within, bands_end, bands_few, bands_fit, bands_more, bands_none}
+use Rattle.developer.proofs.Bands.{InBands, band_within, bands_end, bands_fit, bands_more, bands_none}
 use Rattle.developer.proofs.Bands.{bands_stop}
 use Rattle.developer.proofs.Bandwise.{all_made, band_is, band_left, band_made, bands_to, bands_to_first, first_below}
 use Rattle.developer.proofs.Bandwise.{made_none, made_stay, row_at, row_at_end, row_at_first}
