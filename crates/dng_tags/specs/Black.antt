@@ -20,6 +20,12 @@ use Rattle.tag_rules.specs.declared.tags.Tag.{Tag}
 use Rattle.tag_rules.specs.declared.tags.Tag.TheVariants.{BlackLevel, BlackLevelDeltaH, BlackLevelDeltaV}
 use Rattle.tag_rules.specs.declared.tags.Tag.TheVariants.{BlackLevelRepeatDim, LinearizationTable, WhiteLevel}
 
+-- the black level of a pattern's row i and column c, and what the column adds
+abbrev pub across_at : Levels → (i c : ℕ) → ℤ
+across_at levels i c =
+    slice_index_or levels.black (i * levels.black_cols + c % levels.black_cols) (pos 0)
+    +ℤ slice_index_or levels.delta_h c (pos 0)
+
 -- the black level at row r, column c of the active area: that of the pattern's place, and what its column and its row
 -- add
 abbrev pub black_at : Levels → (r c : ℕ) → ℤ

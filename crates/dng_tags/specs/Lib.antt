@@ -9,5 +9,4 @@ pub mod Listed
 pub mod Origin
 pub mod Pattern
 pub mod Raw
-pub mod Span
 pub mod inner

@@ -1,9 +1,8 @@
 //! The greatest black level of an area, and how far the white level is above it.
 
 ghost use Rattle.std.specs.Prelude.{◌≡◌, ◌+◌, ◌*◌, ◌%◌, ◌≤◌, ◌<◌, ◌⊎◌, pos, neg_ℤ, ◌≤ℤ◌, length, slice_index_or};
-ghost use Rattle.dng_tags.specs.Black.{greatest_black, span_of};
+ghost use Rattle.dng_tags.specs.Black.{across_at, greatest_black, span_of};
 ghost use Rattle.dng_tags.specs.Facts.{AreDeltas, AreRanged, IsBlackPattern};
-ghost use Rattle.dng_tags.specs.Span.{across_at};
 ghost use Rattle.dng_tags.specs.inner.Span.{FallsBefore, FallsOn, IsGreatest, IsGreatestBlack};
 
 use crate::record::Levels;

@@ -6,8 +6,7 @@ use Rattle.std.proofs.lemmas.List.{ext_get_or}
 use Rattle.std.proofs.lemmas.List.FromFn.{length-map-range_with_len, get_or-map-range_with_len}
 use Rattle.std.proofs.lemmas.Nat.{div_below, div-mul-add, mod-mul-add, mod_below, mul-add-lt}
 use Rattle.std.specs.Prelude.{◌+ℤ◌}
-use Rattle.dng_tags.specs.Black.{black_at}
-use Rattle.dng_tags.specs.Span.{across_at}
+use Rattle.dng_tags.specs.Black.{across_at, black_at}
 use Rattle.dng_tags.specs.declared.record.Levels.{Levels}
 use Rattle.linearise.specs.Blacks.{area_of, black_by}
 

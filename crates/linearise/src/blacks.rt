@@ -2,10 +2,9 @@
 
 ghost use Rattle.std.specs.Prelude.{◌≡◌, ℕ, ◌+◌, ◌-◌, ◌*◌, ◌/◌, ◌%◌, ◌<◌, ◌≤◌, ◌↔◌, pos, ◌+ℤ◌, length, slice_index_or};
 ghost use Rattle.std.specs.Prelude.{IfOk, IsTrue};
-ghost use Rattle.dng_tags.specs.Black.{black_at};
+ghost use Rattle.dng_tags.specs.Black.{across_at, black_at};
 ghost use Rattle.dng_tags.specs.Facts.{AreDeltas, AreRanged, IsBlackPattern};
 ghost use Rattle.tag_rules.specs.Quantities.{AreWithin, IsWithin};
-ghost use Rattle.dng_tags.specs.Span.{across_at};
 ghost use Rattle.linearise.specs.Blacks.{AreBlacks, area_of, black_by};
 
 use dng_tags::Levels;

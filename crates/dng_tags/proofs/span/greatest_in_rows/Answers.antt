@@ -2,7 +2,7 @@ use Rattle.std.proofs.Common.{◌≡◌, ◌+◌, ℤ, arith, subst, sym, ◌∙
 use Rattle.std.specs.Prelude.{◌+ℤ◌}
 use Rattle.std.specs.Int.{w64, cast_signed, cast_unsigned, int_max}
 use Rattle.std.proofs.lemmas.Int.{ints, clamps}
-use Rattle.dng_tags.specs.Span.{across_at}
+use Rattle.dng_tags.specs.Black.{across_at}
 use Rattle.dng_tags.specs.inner.Span.{FallsBefore, FallsOn, IsGreatest, IsGreatestBlack}
 use Rattle.dng_tags.proofs.SpanLemmas.{greatest_first, greatest_more, rows_greatest}
 use Rattle.dng_tags.proofs.span.greatest_in_rows.Goals as goal

@@ -1,6 +1,6 @@
 use Rattle.std.proofs.Common.{pos}
 use Rattle.std.specs.Prelude.{neg_ℤ, ◌≤ℤ◌}
-use Rattle.dng_tags.specs.Span.{across_at}
+use Rattle.dng_tags.specs.Black.{across_at}
 use Rattle.dng_tags.specs.inner.Span.{FallsBefore, IsGreatest}
 use Rattle.dng_tags.proofs.span.greatest_in_rows.Given as goal
 

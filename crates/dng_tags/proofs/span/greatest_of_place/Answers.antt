@@ -2,7 +2,7 @@ use Rattle.std.proofs.Common.{◌≡◌, ℤ, arith, subst, sym}
 use Rattle.std.specs.Prelude.{◌+ℤ◌}
 use Rattle.std.specs.Int.{w64, cast_signed, cast_unsigned}
 use Rattle.std.proofs.lemmas.Int.{ints}
-use Rattle.dng_tags.specs.Span.{across_at}
+use Rattle.dng_tags.specs.Black.{across_at}
 use Rattle.dng_tags.specs.inner.Span.{FallsOn, IsGreatest}
 use Rattle.dng_tags.proofs.SpanLemmas.{place_greatest}
 use Rattle.dng_tags.proofs.span.greatest_of_place.Goals as goal

@@ -3,7 +3,7 @@ use Rattle.std.proofs.Common.{sym, ◌≢◌, get_or-set_other, get_or-set_same,
 use Rattle.std.specs.Int.{w32}
 use Rattle.std.proofs.lemmas.Int.{ints}
 use Rattle.tag_rules.specs.Quantities.{IsWithin}
-use Rattle.dng_tags.specs.Span.{across_at}
+use Rattle.dng_tags.specs.Black.{across_at}
 use Rattle.linearise.proofs.blacks.fill_across.Goals as goal
 
 pub loop-k-preserved : goal.loop-k-preserved

@@ -1,6 +1,6 @@
 use Rattle.std.proofs.Common.{◌≡◌, ℕ, ◌/◌, ◌%◌, ◌<◌, pos, get_or}
 use Rattle.tag_rules.specs.Quantities.{IsWithin}
-use Rattle.dng_tags.specs.Span.{across_at}
+use Rattle.dng_tags.specs.Black.{across_at}
 use Rattle.linearise.proofs.blacks.fill_across.Given as goal
 
 abbrev pub invariant-loop-k : goal.invariant-loop-k
