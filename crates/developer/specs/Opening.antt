@@ -9,7 +9,7 @@ use Rattle.dng_tags.specs.declared.record.Frame.{Frame}
 use Rattle.tag_rules.specs.declared.faults.FrameFault.{FrameFault}
 use Rattle.tag_rules.specs.declared.faults.FrameFault.TheVariants.{TooLong}
 use Rattle.stage_deps.specs.Stamping.{begun}
-use Rattle.frame_segments.specs.Opened.{Opened as Segments, rects_of}
+use Rattle.frame_segments.specs.Opened.{OpenedSegments, rects_of}
 use Rattle.region_session.specs.Sessions.{Opened as Session}
 use Rattle.dev_stages.specs.declared.stage.DevStage.{DevStage}
 use Rattle.developer.specs.Develop.{stages_under}
@@ -33,7 +33,7 @@ pub record FrameFile : Type 0 where
   pub frame : Frame
 
 -- a session of stages over segments: no cell was run, none is held, and nothing was changed
-abbrev pub begun_over : Options → Segments → List DevStage → Session DevStage
+abbrev pub begun_over : Options → OpenedSegments → List DevStage → Session DevStage
 begun_over chosen segments stages = record {
   plane = segments.plane;
   cells = segments.cells;
@@ -48,7 +48,7 @@ begun_over chosen segments stages = record {
 }
 
 -- the segments of a frame, of which none was fetched: the raw plane
-abbrev pub unfetched : FrameFile → Segments
+abbrev pub unfetched : FrameFile → OpenedSegments
 unfetched file = record { plane = raw file.bytes file.frame; cells = rects_of file.frame.segments; fetches = 0 }
 
 -- what is in force before the first line

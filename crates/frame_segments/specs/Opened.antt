@@ -5,7 +5,7 @@ use Rattle.plane_view.specs.declared.Rect.{Rect}
 use Rattle.dng_tags.specs.declared.record.Segment.{Segment}
 
 -- what contracts see of opened segments: the raw plane, the rectangles of its cells, and how many cells were fetched
-pub record Opened : Type 0 where
+pub record OpenedSegments : Type 0 where
   pub plane : Plane
   pub cells : List Rect
   pub fetches : ℕ

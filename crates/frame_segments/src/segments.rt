@@ -32,9 +32,9 @@ pub struct Segments<'a> {
 impl<'a> Model for Segments<'a> {
     ghost use Rattle.dng_tags.specs.Raw.{segments_plane};
     ghost use Rattle.frame_segments.specs.inner.Buffers.{AreOpened};
-    ghost use Rattle.frame_segments.specs.Opened.{Opened, rects_of};
+    ghost use Rattle.frame_segments.specs.Opened.{OpenedSegments, rects_of};
 
-    ghost Value = { Opened };
+    ghost Value = { OpenedSegments };
 
     ghost view = { λ s. record {
       plane = segments_plane s.coded.bytes.now s.coded.coding s.shape s.segments;

@@ -1,6 +1,6 @@
 use Rattle.std.proofs.Common.{◌≡◌, IfSome, Ok, sym, ◌∙◌, ap, ap₂, subst}
 use Rattle.std.proofs.lemmas.Result.{err_from_is_err_and}
-use Rattle.frame_segments.specs.Opened.{Opened as Segments}
+use Rattle.frame_segments.specs.Opened.{OpenedSegments}
 use Rattle.developer.specs.Develop.{stages_under}
 use Rattle.developer.specs.Opening.{FrameFile, begun_over, opened_named}
 use Rattle.developer.specs.Sessions.{InForce, in_force}
@@ -10,7 +10,7 @@ use Rattle.developer.proofs.opening.open_frame.Goals as goal
 
 pub new-requires-clause-read : goal.new-requires-clause-read
 new-requires-clause-read g c =
-    (c.args.bytes.now, c.requires.frame, ap (λ (o : Segments). o.plane) c.in_ok-segments.ensures.opened)
+    (c.args.bytes.now, c.requires.frame, ap (λ (o : OpenedSegments). o.plane) c.in_ok-segments.ensures.opened)
 
 pub returns-in_err-planned-clause-opens : goal.returns-in_err-planned-clause-opens
 returns-in_err-planned-clause-opens g c =
@@ -24,7 +24,7 @@ returns-clause-opens g c =
     let chosen = option_view c.args.options.now in
     let settings = c.in_ok-planned.planned.settings in
     let is = c.in_ok-new.ensures
-    ∙ ap (λ (o : Segments). in_force c.args.frame settings
+    ∙ ap (λ (o : OpenedSegments). in_force c.args.frame settings
     (begun_over chosen o (stages_under c.args.frame settings))) c.in_ok-segments.ensures.opened in (
       c.in_ok-segments.ensures.decoded,
       subst (λ (r : InForce). IfSome (opened_named chosen file chosen.settings (g.F.Files.told c.args.files.now))
