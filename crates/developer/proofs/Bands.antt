@@ -7,7 +7,7 @@ use Rattle.plane_view.specs.Rectangles.{area_of}
 use Rattle.plane_view.specs.declared.Rect.{Rect}
 use Rattle.dev_settings.specs.declared.format.Format.{Format}
 use Rattle.image_out.specs.Image.{pixels_of}
-use Rattle.developer.specs.Develop.{IsDeveloped, IsWithin}
+use Rattle.developer.specs.inner.Developed.{IsDeveloped, IsWithin}
 use Rattle.developer.specs.inner.Pieces.{InPieces}
 use Rattle.developer.specs.inner.Writes.{Writes}
 use Rattle.developer.specs.declared.writing.Stop.{Stop}

@@ -23,7 +23,8 @@ use Rattle.dev_settings.specs.declared.settings.Settings.{Settings}
 use Rattle.dev_stages.specs.declared.fault.PlanFault.TheVariants as fault
 use Rattle.dev_stages.proofs.PlanLemmas.{plannable, takes_planned}
 use Rattle.region_session.specs.Stacks.{last_shape}
-use Rattle.developer.specs.Develop.{Develops, IsInForce, develop, stages_under}
+use Rattle.developer.specs.Develop.{IsInForce, develop, stages_under}
+use Rattle.developer.specs.inner.Developed.{Develops}
 use Rattle.developer.specs.Replies.{developed}
 use Rattle.developer.specs.Sessions.{InForce}
 

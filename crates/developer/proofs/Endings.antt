@@ -15,7 +15,8 @@ use Rattle.developer.specs.Opening.{Opening}
 use Rattle.developer.specs.inner.Reading.{IsPrefixOfAnswers, Outcome, complete_answers, whole_answers}
 use Rattle.developer.specs.Replies.{answer_of}
 use Rattle.developer.specs.Run.{Call, Completes, Ends, IsAnswered, IsOpened, IsPrefix, IsTallied, Promises, RisesBy}
-use Rattle.developer.specs.Run.{Stays, Tallies, called, opening, status_after, status_of}
+use Rattle.developer.specs.Run.{Stays, Tallies, called, opening}
+use Rattle.developer.specs.inner.Endings.{status_after, status_of}
 use Rattle.developer.specs.Sessions.{InForce}
 use Rattle.developer.specs.Transcript.{Transcript, answers_to, by_answers, by_opening, by_script, by_told_script}
 use Rattle.developer.specs.Transcript.{max_script, session_after}

@@ -11,7 +11,7 @@ use Rattle.dev_settings.specs.declared.format.Format.{Format}
 use Rattle.dev_settings.specs.declared.format.Format.TheVariants.{Ppm, Tiff}
 use Rattle.image_out.specs.Image.{head_of, pixels_of, reply_head_of}
 use Rattle.image_out.proofs.ImageLaws.{length-image_of, length-pixels_of, pixels_of-append}
-use Rattle.developer.specs.Develop.{IsDeveloped, IsWithin}
+use Rattle.developer.specs.inner.Developed.{IsDeveloped, IsWithin}
 use Rattle.developer.specs.Replies.{image, image_reply, no_region, region_reply}
 
 -- the bytes of the first k rows of a crop

@@ -6,9 +6,8 @@ use Rattle.std.proofs.lemmas.Bool.{eqb-true}
 use Rattle.std.proofs.lemmas.List.{append-nil, nil_from_length}
 use Rattle.raw_io.specs.Outside.{Appends, IsPrefixOf}
 use Rattle.dev_settings.specs.Lines.{Lines, last_line, lines_of, unended, with_first}
-use Rattle.developer.specs.Answered.{Sends}
 use Rattle.developer.specs.Answers.{Answer}
-use Rattle.developer.specs.inner.Reading.{IsAnswered, kept_of}
+use Rattle.developer.specs.inner.Reading.{IsAnswered, Sends, kept_of}
 use Rattle.developer.specs.Replies.{answer_of}
 use Rattle.developer.specs.Sessions.{InForce}
 use Rattle.developer.specs.Transcript.{answers_to}

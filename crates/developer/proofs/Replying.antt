@@ -20,14 +20,14 @@ use Rattle.dev_stages.specs.declared.stage.DevStage.{DevStage}
 use Rattle.raw_io.specs.Outside.{IsPrefixOf}
 use Rattle.developer.specs.declared.fault.AnswerFault.{AnswerFault}
 use Rattle.developer.specs.declared.fault.AnswerFault.TheVariants as faults
-use Rattle.developer.specs.Answered.{Appended, AreMade, IsCutAt, LeftAfter, Sends, MadeUpTo, cause_of, fault_by}
-use Rattle.developer.specs.Answered.{fault_for}
+use Rattle.developer.specs.Answered.{Appended, AreMade, IsCutAt, LeftAfter, MadeUpTo, cause_of}
 use Rattle.developer.specs.Answers.{Answer}
 use Rattle.developer.specs.Replies.{bands_in, command_answer, command_bands, developed, done, no_stages, part_of}
 use Rattle.developer.specs.Replies.{region_answer, region_reply, replied, set_answer, set_by}
 use Rattle.developer.specs.Sessions.{InForce, after_bands, is_another, restaged, stamped_if}
 use Rattle.developer.specs.Answered.{ByCause}
-use Rattle.developer.specs.inner.Writes.{Writes}
+use Rattle.developer.specs.inner.Reading.{Sends}
+use Rattle.developer.specs.inner.Writes.{Writes, fault_by, fault_for}
 use Rattle.developer.specs.declared.writing.Cause.{Cause}
 use Rattle.developer.specs.declared.writing.Cause.TheVariants.{Memory, Write}
 use Rattle.developer.specs.declared.writing.Stop.{Stop}

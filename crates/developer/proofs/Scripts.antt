@@ -7,7 +7,7 @@ use Rattle.raw_io.specs.Outside.{Rises, Takes}
 use Rattle.dev_settings.specs.Lines.{Lines, all_lines, last_line, lines_of}
 use Rattle.dev_settings.proofs.LineLaws.{lines_of-append}
 use Rattle.developer.specs.inner.Reading.{IsAnswered, IsPrefixOfAnswers, IsWhole, Outcome, Reads, kept_of}
-use Rattle.developer.specs.Run.{ending_of}
+use Rattle.developer.specs.inner.Endings.{ending_of}
 use Rattle.developer.specs.Sessions.{InForce}
 use Rattle.developer.specs.Transcript.{answers_to, max_script}
 use Rattle.developer.specs.Answered.{ByCause}

@@ -1,5 +1,5 @@
 -- What answering a line promises, beside the answer. This is this project's own.
-use Rattle.std.specs.Prelude.{◌≡◌, ℕ, ◌+◌, ◌≤◌, ◌⊎◌, List, [], ◌∷◌, ◌++◌, length, take, Result, IfErr, OnErr, OnOk}
+use Rattle.std.specs.Prelude.{◌≡◌, ℕ, ◌+◌, ◌≤◌, ◌⊎◌, List, [], ◌∷◌, ◌++◌, length, take, Result, IfErr, OnOk}
 use Rattle.plane_view.specs.declared.Rect.{Rect}
 use Rattle.raw_io.specs.Outside.{Appends, IsPrefixOf, Rises}
 use Rattle.region_session.specs.Sessions.{Opened as Session}
@@ -11,7 +11,6 @@ use Rattle.developer.specs.declared.fault.AnswerFault.{AnswerFault}
 use Rattle.developer.specs.declared.fault.AnswerFault.TheVariants.{Write, Memory}
 use Rattle.developer.specs.declared.writing.Cause.{Cause}
 use Rattle.developer.specs.declared.writing.Cause.TheVariants as causes
-use Rattle.developer.specs.declared.writing.Stop.{Stop}
 
 -- why a fault cut an answer short
 abbrev pub cause_of : AnswerFault → Cause
@@ -23,14 +22,6 @@ cause_of Memory = causes.Memory
 abbrev pub ByCause : Cause → (before after : ℕ) → Type 0
 ByCause causes.Write before after = Rises before after
 ByCause causes.Memory before after = after ≡ before
-
--- the fault of an answer that is cut short after so many bytes
-abbrev pub fault_for : ℕ → Cause → AnswerFault
-fault_for written causes.Write = Write (record { written = written })
-fault_for written causes.Memory = Memory
-
-abbrev pub fault_by : Stop → AnswerFault
-fault_by stop = fault_for stop.written stop.cause
 
 -- these bytes of an answer were written before a fault: a prefix, and where a write failed, as many as the fault tells
 abbrev pub IsCutAt : AnswerFault → (written answer : List ℕ) → Type 0
@@ -47,16 +38,6 @@ pub record Appended {S T : Type 0} (stands_for : S → List ℕ → Type 0) (fau
   pub calm : OnOk result (faults new ≡ faults old)
   pub counts : faults old ≤ faults new
   pub cause : IfErr result (λ fault. ByCause (cause_of fault) (faults old) (faults new))
-
--- the same of several answers, without how much was written: on Ok all of these bytes were appended, and after a fault
--- a prefix of them was
-pub record Sends {S T : Type 0} (stands_for : S → List ℕ → Type 0) (faults : S → ℕ) (old new : S) (answers : List ℕ)
-    (result : Result T Cause) : Type 0 where
-  pub whole : OnOk result (Appends stands_for old new answers)
-  pub prefix : OnErr result ((written : List ℕ) × Appends stands_for old new written × IsPrefixOf written answers)
-  pub calm : OnOk result (faults new ≡ faults old)
-  pub counts : faults old ≤ faults new
-  pub cause : IfErr result (λ cause. ByCause cause (faults old) (faults new))
 
 -- a band was refused for want of memory: what is counted and which keys are held isn't told, and all else is as it was
 abbrev pub IsRefused : Session DevStage → Session DevStage → Type 0

@@ -1,16 +1,13 @@
 -- The whole development: each stage once, over the whole plane.
-use Rattle.std.specs.Prelude.{◌≡◌, ℕ, ◌<◌, ◌≤◌, List, Ok, unwrap_or}
-use Rattle.plane_view.specs.Plane.{Plane, IsWhole}
-use Rattle.plane_view.specs.declared.Rect.{Rect}
+use Rattle.std.specs.Prelude.{◌≡◌, List, Ok, unwrap_or}
+use Rattle.plane_view.specs.Plane.{Plane}
 use Rattle.dng_tags.specs.declared.record.Frame.{Frame}
-use Rattle.stage_core.specs.Stages.{shape_of}
 use Rattle.stage_chain.specs.Chains.{whole_of}
 use Rattle.region_session.specs.Sessions.{Opened as Session}
-use Rattle.region_session.specs.Stacks.{last_shape}
 use Rattle.colour_matrix.specs.Matrices.{camera_matrix}
 use Rattle.dev_settings.specs.Ranges.{SettingsInRange}
 use Rattle.dev_settings.specs.declared.settings.Settings.{Settings}
-use Rattle.dev_stages.specs.Members.{apply_of, shaped_of}
+use Rattle.dev_stages.specs.Members.{apply_of}
 use Rattle.dev_stages.specs.Plannable.{IsPlannable}
 use Rattle.dev_stages.specs.Plans.{chosen_matrix, planned, stages_with}
 use Rattle.dev_stages.specs.declared.stage.DevStage.{DevStage}
@@ -25,25 +22,6 @@ stages_under frame settings =
 -- plane, from its raw plane on
 unfoldable pub develop : Plane → Frame → Settings → Plane
 develop raw frame settings = whole_of apply_of (stages_under frame settings) raw
-
--- what holds of each developed plane
-pub record IsDeveloped (P : Plane) : Type 0 where
-  pub rows : P.rows ≤ 8192
-  pub cols : P.cols ≤ 8192
-  pub planes : P.planes ≡ 3
-  pub whole : IsWhole P
-
--- the rectangle has a pixel, and lies within the plane
-pub record IsWithin (rect : Rect) (P : Plane) : Type 0 where
-  pub rows : rect.top < rect.bottom
-  pub bottom : rect.bottom ≤ P.rows
-  pub cols : rect.left < rect.right
-  pub right : rect.right ≤ P.cols
-
--- stages that make a developed plane, of the shape that they tell
-pub record Develops (P : Plane) (stages : List DevStage) : Type 0 where
-  pub shape : shape_of (whole_of apply_of stages P) ≡ last_shape shaped_of (shape_of P) stages
-  pub developed : IsDeveloped (whole_of apply_of stages P)
 
 -- a session has its base's plane, its stages, its side and its stamps as before
 pub record StagesStay (old new : Session DevStage) : Type 0 where

@@ -1,5 +1,5 @@
 -- What a run promises. This is this project's own.
-use Rattle.std.specs.Prelude.{◌≡◌, ℕ, ◌<◌, ◌≤◌, ◌⊎◌, List, [], length, Option, None, Some, IfOk, IfSome, Result, Ok}
+use Rattle.std.specs.Prelude.{◌≡◌, ℕ, ◌<◌, ◌≤◌, ◌⊎◌, List, [], length, Option, None, Some, IfOk, IfSome, Ok}
 use Rattle.std.specs.Prelude.{Err, IsOk}
 use Rattle.raw_io.specs.Outside.{IsPrefixOf, Rises}
 use Rattle.developer.specs.Words.{Options, options}
@@ -11,14 +11,10 @@ use Rattle.dev_stages.specs.declared.stage.DevStage.{DevStage}
 use Rattle.developer.specs.Opening.{FileUnread, Opening, opened}
 use Rattle.developer.specs.Sessions.{InForce}
 use Rattle.developer.specs.Transcript.{Transcript, answers_to, max_script, session_after, transcript}
-use Rattle.developer.specs.declared.status.Ending.{Ending}
-use Rattle.developer.specs.declared.status.Ending.TheVariants as endings
 use Rattle.developer.specs.declared.status.Status.{Status}
 use Rattle.developer.specs.declared.status.Status.TheVariants.{Done, Usage, ReadFault, WriteFault, Memory}
 use Rattle.developer.specs.declared.status.Status.TheVariants.{ScriptTooLong}
 use Rattle.developer.specs.declared.status.Status.TheVariants as statuses
-use Rattle.developer.specs.declared.writing.Cause.{Cause}
-use Rattle.developer.specs.declared.writing.Cause.TheVariants as causes
 
 -- the outside of a run at one moment
 pub record Outside : Type 0 where
@@ -136,26 +132,6 @@ pub record Promises (call : Call) (status : Status) : Type 0 where
   pub tallies : Tallies call status
   pub completes : Completes call status
   pub stays : Stays call
-
--- how a run ends whose answer is cut short
-abbrev pub ending_of : Cause → Ending
-ending_of causes.Write = endings.WriteFault
-ending_of causes.Memory = endings.Memory
-
--- the status of a run that ended early
-abbrev pub status_of : Ending → Status
-status_of endings.Usage = Usage
-status_of endings.Frame = statuses.Frame
-status_of endings.Settings = statuses.Settings
-status_of endings.ReadFault = ReadFault
-status_of endings.WriteFault = WriteFault
-status_of endings.Memory = Memory
-status_of endings.ScriptTooLong = ScriptTooLong
-
--- the status of a run that ended early or with its script
-abbrev pub status_after : {T : Type 0} → Result T Ending → Status
-status_after (Ok value) = Done
-status_after (Err ending) = status_of ending
 
 -- the number of a status, with which the program ends
 abbrev pub status_number : Status → ℕ

@@ -1,5 +1,7 @@
 -- Words for the contracts between functions of this crate.
 pub mod Closing
+pub mod Developed
+pub mod Endings
 pub mod Opens
 pub mod Pieces
 pub mod Planning

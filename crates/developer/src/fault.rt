@@ -17,7 +17,7 @@ pub enum AnswerFault {
 
 impl From<Stop> for AnswerFault {
     ghost use Rattle.std.specs.Prelude.{◌≡◌};
-    ghost use Rattle.developer.specs.Answered.{fault_by};
+    ghost use Rattle.developer.specs.inner.Writes.{fault_by};
 
     ghost from_gives = { λ stop fault. fault ≡ fault_by stop };
 

@@ -3,11 +3,11 @@
 ghost use Rattle.std.specs.Prelude.{◌≡◌, ◌+◌, ◌^◌, ◌<◌, ◌≤◌, IfOk, OnOk};
 ghost use Rattle.dng_tags.specs.Facts.{IsFrame};
 ghost use Rattle.dng_tags.specs.Raw.{raw};
-ghost use Rattle.developer.specs.Answered.{Sends};
 ghost use Rattle.developer.specs.inner.Closing.{IsIdle};
 ghost use Rattle.developer.specs.Develop.{stages_under};
 ghost use Rattle.developer.specs.Opening.{begun_over};
 ghost use Rattle.developer.specs.inner.Planning.{IsPlanned};
+ghost use Rattle.developer.specs.inner.Reading.{Sends};
 ghost use Rattle.developer.specs.Replies.{answer_of};
 ghost use Rattle.developer.specs.Run.{RisesBy};
 ghost use Rattle.developer.specs.Sessions.{in_force};

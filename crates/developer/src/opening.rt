@@ -11,7 +11,8 @@ ghost use Rattle.developer.specs.inner.Planning.{seen};
 ghost use Rattle.developer.specs.SettingsFile.{settings_line};
 ghost use Rattle.developer.specs.inner.Shown.{option_view};
 ghost use Rattle.developer.specs.Refusals.{refusal_line};
-ghost use Rattle.developer.specs.Run.{Ends, status_of};
+ghost use Rattle.developer.specs.Run.{Ends};
+ghost use Rattle.developer.specs.inner.Endings.{status_of};
 ghost use Rattle.developer.specs.Words.{Options as Chosen, options};
 ghost use Rattle.region_session.specs.declared.tally.Tally.{Tally};
 

@@ -13,7 +13,7 @@ ghost use Rattle.region_session.specs.Stacks.{last_shape};
 ghost use Rattle.dev_stages.specs.Members.{apply_of, shaped_of};
 ghost use Rattle.image_out.specs.Image.{head_of, pixels_of, reply_head_of};
 ghost use Rattle.developer.specs.Answered.{AreMade, IsRefused, MadeUpTo};
-ghost use Rattle.developer.specs.Develop.{Develops, IsWithin};
+ghost use Rattle.developer.specs.inner.Developed.{Develops, IsWithin};
 ghost use Rattle.developer.specs.inner.Pieces.{InPieces};
 ghost use Rattle.developer.specs.Replies.{image, image_reply, part_of};
 ghost use Rattle.developer.specs.Sessions.{band_at, bands_of};

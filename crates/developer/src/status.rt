@@ -1,7 +1,8 @@
 //! How a run ends.
 
 ghost use Rattle.std.specs.Prelude.{◌≡◌};
-ghost use Rattle.developer.specs.Run.{status_after, status_number, status_of};
+ghost use Rattle.developer.specs.Run.{status_number};
+ghost use Rattle.developer.specs.inner.Endings.{status_after, status_of};
 
 use crate::writing::Cause;
 use raw_io::{Failed, WriteFault};
@@ -123,7 +124,7 @@ impl From<Failed> for Ending {
 }
 
 impl From<Cause> for Ending {
-    ghost use Rattle.developer.specs.Run.{ending_of};
+    ghost use Rattle.developer.specs.inner.Endings.{ending_of};
 
     ghost from_gives = { λ cause e. e ≡ ending_of cause };
 

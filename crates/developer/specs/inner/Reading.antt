@@ -1,9 +1,9 @@
 -- What reading a script piece by piece promises. This is this project's own.
 use Rattle.std.specs.Prelude.{◌≡◌, ℕ, ◌+◌, ◌≤◌, ◌⊎◌, List, [], length, take, Option, Some, IfSome, Result, Ok, Err}
-use Rattle.std.specs.Prelude.{OnOk}
+use Rattle.std.specs.Prelude.{IfErr, OnErr, OnOk}
 use Rattle.raw_io.specs.Outside.{Appends, IsPrefixOf, Rises, Takes}
 use Rattle.dev_settings.specs.Lines.{all_lines, lines_of}
-use Rattle.developer.specs.Answered.{Sends}
+use Rattle.developer.specs.Answered.{ByCause}
 use Rattle.developer.specs.Answers.{Answer}
 use Rattle.developer.specs.Sessions.{InForce}
 use Rattle.developer.specs.Transcript.{answers_to, max_script}
@@ -14,6 +14,16 @@ use Rattle.developer.specs.declared.writing.Cause.{Cause}
 -- what is kept of a line: one byte more than a line may have shows that it is too long
 abbrev pub kept_of : List ℕ → List ℕ
 kept_of line = take 4097 line
+
+-- On Ok all of these bytes of answers were appended, and after a fault a prefix of them was. The sink's count of faults
+-- rose exactly where a write failed.
+pub record Sends {S T : Type 0} (stands_for : S → List ℕ → Type 0) (faults : S → ℕ) (old new : S) (answers : List ℕ)
+    (result : Result T Cause) : Type 0 where
+  pub whole : OnOk result (Appends stands_for old new answers)
+  pub prefix : OnErr result ((written : List ℕ) × Appends stands_for old new written × IsPrefixOf written answers)
+  pub calm : OnOk result (faults new ≡ faults old)
+  pub counts : faults old ≤ faults new
+  pub cause : IfErr result (λ cause. ByCause cause (faults old) (faults new))
 
 -- lines were answered one after the other, or the answers cut short
 pub record IsAnswered {S T : Type 0} (stands_for : S → List ℕ → Type 0) (faults : S → ℕ) (first now : S)

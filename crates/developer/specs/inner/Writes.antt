@@ -3,6 +3,9 @@ use Rattle.std.specs.Prelude.{◌≡◌, ℕ, ◌≤◌, List, length, take, Res
 use Rattle.raw_io.specs.Outside.{Appends}
 use Rattle.developer.specs.Answered.{ByCause}
 use Rattle.raw_io.specs.declared.whole.WriteFault.{WriteFault}
+use Rattle.developer.specs.declared.fault.AnswerFault.{AnswerFault}
+use Rattle.developer.specs.declared.fault.AnswerFault.TheVariants as faults
+use Rattle.developer.specs.declared.writing.Cause.{Cause}
 use Rattle.developer.specs.declared.writing.Cause.TheVariants.{Memory, Write}
 use Rattle.developer.specs.declared.writing.Stop.{Stop}
 
@@ -13,6 +16,15 @@ by_write fault = record { written = fault.written; cause = Write }
 -- memory ran out before the first byte
 abbrev pub no_memory : Stop
 no_memory = record { written = 0; cause = Memory }
+
+-- the fault of an answer that is cut short after so many bytes
+abbrev pub fault_for : ℕ → Cause → AnswerFault
+fault_for written Write = faults.Write (record { written = written })
+fault_for written Memory = faults.Memory
+
+-- a stop, as the fault of the answer that it cuts short
+abbrev pub fault_by : Stop → AnswerFault
+fault_by stop = fault_for stop.written stop.cause
 
 -- what may fail by writes alone, as what may stop
 abbrev pub stopped : {T : Type 0} → Result T WriteFault → Result T Stop

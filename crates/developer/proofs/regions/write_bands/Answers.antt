@@ -9,7 +9,7 @@ use Rattle.dev_stages.specs.Members.{apply_of}
 use Rattle.dev_stages.specs.declared.stage.DevStage.{DevStage}
 use Rattle.image_out.specs.Image.{pixels_of}
 use Rattle.developer.specs.Answered.{AreMade, IsRefused, MadeUpTo}
-use Rattle.developer.specs.Develop.{Develops, IsWithin}
+use Rattle.developer.specs.inner.Developed.{Develops, IsWithin}
 use Rattle.developer.specs.inner.Pieces.{InPieces}
 use Rattle.developer.specs.Sessions.{bands_of}
 use Rattle.developer.specs.inner.Writes.{Writes, by_write}

@@ -1,5 +1,5 @@
 use Rattle.std.proofs.Common.{sym, subst}
-use Rattle.developer.specs.Answered.{Sends}
+use Rattle.developer.specs.inner.Reading.{Sends}
 use Rattle.developer.specs.Replies.{answer_of}
 use Rattle.developer.specs.Sessions.{InForce, in_force}
 use Rattle.developer.proofs.Replying.{sends_err, sends_ok}
