@@ -3,7 +3,9 @@ pub mod Counting
 pub mod Covering
 pub mod Layering
 pub mod Listing
+pub mod NoneMissing
 pub mod OneCell
+pub mod OverLower
 pub mod Replacing
 pub mod Sizes
 pub mod Tiering

@@ -1,4 +1,4 @@
-use Rattle.std.proofs.Common.{rules, ◌≡◌, ℕ, ◌+◌, ◌<◌, ◌≤◌, List, [], ◌∷◌, ◌++◌, length, map, false, refl, sym, ◌∙◌, ap}
+use Rattle.std.proofs.Common.{rules, ◌≡◌, ℕ, ◌+◌, ◌<◌, ◌≤◌, List, [], ◌++◌, length, false, sym, ◌∙◌, ap}
 use Rattle.std.proofs.Common.{subst, arith}
 use Rattle.std.specs.List.{All}
 use Rattle.std.specs.List.Sorted.{IsStrictlyIncreasing}
@@ -18,30 +18,25 @@ use Rattle.stage_chain.specs.Chains.{whole_of}
 use Rattle.stage_deps.specs.declared.grid.Grid.{Grid}
 use Rattle.stage_deps.specs.Cells.{cell_at, cells_at, meeting}
 use Rattle.stage_deps.specs.Grids.{grid_cells}
-use Rattle.stage_deps.proofs.Coverage.{unmapped}
 use Rattle.stage_deps.proofs.GridCells.{grid_makes_up}
-use Rattle.kept_cells.specs.Held.{AreRight, Held, IsRight, TakesUpTo, fresh, missing}
-use Rattle.kept_cells.specs.Kept.{Kept, Marks, brought_each, keep, put_each, size_of}
-use Rattle.kept_cells.specs.Missing.{count_of_fetches, count_of_runs, needs_of}
+use Rattle.kept_cells.specs.Held.{Held, fresh, missing}
+use Rattle.kept_cells.specs.Kept.{Kept, Marks, put_each, size_of}
+use Rattle.kept_cells.specs.Missing.{needs_of}
 use Rattle.kept_cells.specs.Tiers.{Tier, tiers_of}
-use Rattle.kept_cells.proofs.Keeping.{absent_later, keep_same, keep_top, missing_rises}
-use Rattle.kept_cells.proofs.Lower.{developed, fetches_same, fetches_top, missing_bounds, right_same, rights_lower}
-use Rattle.kept_cells.proofs.Lower.{rights_run, rights_same, runs_same, runs_top, takes_lower, takes_run}
+use Rattle.kept_cells.proofs.Keeping.{absent_later, missing_rises}
+use Rattle.kept_cells.proofs.Lower.{missing_bounds, right_same, rights_same, takes_lower, takes_run}
 use Rattle.region_session.specs.declared.layers.Layer.{Layer}
 use Rattle.region_session.specs.inner.Parts.{HasCells, Shows}
 use Rattle.region_session.specs.Stacks.{last_shape}
 use Rattle.region_session.proofs.Copying.{filled_from, missing_told}
 use Rattle.region_session.proofs.Counting.{raised_none}
 use Rattle.region_session.proofs.Covering.{cells_are_parts, shows_wanted}
-use Rattle.region_session.proofs.Tiering.{developed_is, fetches_none, held_on_top, keep_none, on_top, runs_none}
-use Rattle.region_session.proofs.Tiering.{tier_on, tiers_length}
+use Rattle.region_session.proofs.NoneMissing.{kept_fresh, no_fetches, no_runs, none_of}
+use Rattle.region_session.proofs.OverLower.{fetches_below, kept_below, needs_agree, needs_lie, rights_above}
+use Rattle.region_session.proofs.OverLower.{rights_below, runs_below}
+use Rattle.region_session.proofs.Tiering.{held_on_top, on_top, tier_on}
 use Rattle.region_session.proofs.Top.{as_many, top_of}
 use Rattle.region_session.proofs.bands.+make.Goals as goal
-
--- a list of no elements
-none_of : {X : Type 0} (xs : List X) → length xs ≡ 0 → xs ≡ []
-none_of [] none = refl
-none_of (x ∷ xs) none = absurd (omega arith)
 
 pub unreachable-requires-in_default-split_last-2 : goal.unreachable-requires-in_default-split_last-2
 unreachable-requires-in_default-split_last-2 g t c =
@@ -176,10 +171,8 @@ returns-then-is_empty-clause-shows g t c =
     c.in-Some-split_last-2.lower_layers.now c.in-Some-split_last-2.layer.now grid top c.requires.right in
     let numbers : List ℕ = meeting cells wanted in
     let gone : List ℕ = missing held plane numbers in
-    let empty : c.open_wanted.new.own.missing.items ≡ [] =
-    none_of c.open_wanted.new.own.missing.items
+    let none : gone ≡ [] = none_of c.open_wanted.new.own.missing.items gone c.in_ok-open_wanted.ensures.missing
     (omega (arith, eqb-true _ _ (sym c.is_empty.ensures ∙ c.if-is_empty.true), c.open_wanted.new.own.missing.ok)) in
-    let none : gone ≡ [] = sym c.in_ok-open_wanted.ensures.missing ∙ empty in
     let parts : All (λ (rect : Rect). IsPart rect grid.shape) wanted =
     subst (λ (t : Shape). All (λ (rect : Rect). IsPart rect t) wanted) top.last c.requires.wanted in
     let up = grid_makes_up grid.shape grid.side (omega (arith, grid.least)) in
@@ -197,200 +190,96 @@ returns-then-is_empty-clause-shows g t c =
 
 pub returns-then-is_empty-clause-work : goal.returns-then-is_empty-clause-work
 returns-then-is_empty-clause-work g t c =
-    let need = g.S.Stage.needed in
     let P : Plane = g.B.Base.plane c.args.source.now.base in
-    let input : Shape = shape_of P in
-    let all = c.args.stages.now in
-    let stage = c.in-Some-split_last.stage.now in
-    let layer : Layer = c.in-Some-split_last-2.layer.now in
-    let grid : Grid = c.new-grid.result in
-    let side : ℕ = c.args.side in
     let top = on_top g.S.Stage.takes g.S.Stage.shaped g.S.Stage.apply g.met.S.Stage.makes_shapes
-    g.met.S.Stage.makes_planes P c.shape-shape.result c.shape-shape.ensures.shape c.shape-shape.ensures.plane side
-    all c.in-Some-split_last.below.now stage c.args.layers.now c.in-Some-split_last-2.lower_layers.now layer grid
+    g.met.S.Stage.makes_planes P c.shape-shape.result c.shape-shape.ensures.shape c.shape-shape.ensures.plane
+    c.args.side c.args.stages.now c.in-Some-split_last.below.now c.in-Some-split_last.stage.now c.args.layers.now
+    c.in-Some-split_last-2.lower_layers.now c.in-Some-split_last-2.layer.now c.new-grid.result
     c.in-Some-split_last.ensures.cases.0 (omega (arith, c.in-Some-split_last.ensures.cases.1))
     c.in-Some-split_last-2.ensures.cases.0 c.requires.layers c.new-grid.ensures.shape c.new-grid.ensures.side in
-    let cells : List Rect = grid_cells grid.shape grid.side in
-    let plane : ℕ = length all in
-    let tier : Tier _ = tier_on stage layer grid in
-    let tiers : List (Tier _) = tiers_of g.S.Stage.shaped side input c.in-Some-split_last.below.now in
-    let all_tiers : List (Tier _) = tiers_of g.S.Stage.shaped side input all in
     let held : Held = g.C.Cache.held c.args.cache.now in
-    let wanted : List Rect = c.args.wanted.now in
-    let numbers : List ℕ = meeting cells wanted in
-    let gone : List ℕ = missing held plane numbers in
-    let empty : c.open_wanted.new.own.missing.items ≡ [] =
-    none_of c.open_wanted.new.own.missing.items
+    let none : missing held (length c.args.stages.now)
+    (meeting (grid_cells c.new-grid.result.shape c.new-grid.result.side) c.args.wanted.now) ≡ [] =
+    none_of c.open_wanted.new.own.missing.items _ c.in_ok-open_wanted.ensures.missing
     (omega (arith, eqb-true _ _ (sym c.is_empty.ensures ∙ c.if-is_empty.true), c.open_wanted.new.own.missing.ok)) in
-    let none : gone ≡ [] = sym c.in_ok-open_wanted.ensures.missing ∙ empty in
-    let wants : needs_of held need plane tier wanted ≡ [] =
-    ap (λ (xs : List ℕ). map (need stage layer.input) (cells_at cells xs)) none in
     let base_cells : List Rect = g.B.Base.cells_of c.args.source.now.base in
-    let fetches : count_of_fetches held need base_cells all_tiers wanted ≡ 0 =
-    fetches_top held need base_cells all_tiers tiers tier wanted plane top.tiers top.plane
-    ∙ ap (λ (xs : List Rect). count_of_fetches held need base_cells tiers xs) wants
-    ∙ fetches_none held need base_cells tiers in
-    let runs : count_of_runs held need 0 all_tiers wanted ≡ 0 =
-    runs_top held need all_tiers tiers tier wanted plane top.tiers top.plane
-    ∙ ap (λ (xs : List Rect). count_of_runs held need 0 tiers xs + length gone) wants
-    ∙ ap (λ (xs : List ℕ). count_of_runs held need 0 tiers [] + length xs) none
-    ∙ ap (λ n. n + 0) (runs_none held need 0 tiers) in
+    let fetches = no_fetches top held g.S.Stage.needed base_cells c.args.wanted.now none in
+    let runs = no_runs top held g.S.Stage.needed c.args.wanted.now none in
     omega (arith, fetches, runs)
 
 pub returns-then-is_empty-clause-count : goal.returns-then-is_empty-clause-count
 returns-then-is_empty-clause-count g t c =
-    let need = g.S.Stage.needed in
     let P : Plane = g.B.Base.plane c.args.source.now.base in
-    let input : Shape = shape_of P in
-    let all = c.args.stages.now in
-    let stage = c.in-Some-split_last.stage.now in
-    let layer : Layer = c.in-Some-split_last-2.layer.now in
-    let grid : Grid = c.new-grid.result in
-    let side : ℕ = c.args.side in
     let top = on_top g.S.Stage.takes g.S.Stage.shaped g.S.Stage.apply g.met.S.Stage.makes_shapes
-    g.met.S.Stage.makes_planes P c.shape-shape.result c.shape-shape.ensures.shape c.shape-shape.ensures.plane side
-    all c.in-Some-split_last.below.now stage c.args.layers.now c.in-Some-split_last-2.lower_layers.now layer grid
+    g.met.S.Stage.makes_planes P c.shape-shape.result c.shape-shape.ensures.shape c.shape-shape.ensures.plane
+    c.args.side c.args.stages.now c.in-Some-split_last.below.now c.in-Some-split_last.stage.now c.args.layers.now
+    c.in-Some-split_last-2.lower_layers.now c.in-Some-split_last-2.layer.now c.new-grid.result
     c.in-Some-split_last.ensures.cases.0 (omega (arith, c.in-Some-split_last.ensures.cases.1))
     c.in-Some-split_last-2.ensures.cases.0 c.requires.layers c.new-grid.ensures.shape c.new-grid.ensures.side in
-    let cells : List Rect = grid_cells grid.shape grid.side in
-    let plane : ℕ = length all in
-    let tier : Tier _ = tier_on stage layer grid in
-    let tiers : List (Tier _) = tiers_of g.S.Stage.shaped side input c.in-Some-split_last.below.now in
-    let all_tiers : List (Tier _) = tiers_of g.S.Stage.shaped side input all in
     let held : Held = g.C.Cache.held c.args.cache.now in
-    let wanted : List Rect = c.args.wanted.now in
-    let numbers : List ℕ = meeting cells wanted in
-    let gone : List ℕ = missing held plane numbers in
-    let empty : c.open_wanted.new.own.missing.items ≡ [] =
-    none_of c.open_wanted.new.own.missing.items
+    let none : missing held (length c.args.stages.now)
+    (meeting (grid_cells c.new-grid.result.shape c.new-grid.result.side) c.args.wanted.now) ≡ [] =
+    none_of c.open_wanted.new.own.missing.items _ c.in_ok-open_wanted.ensures.missing
     (omega (arith, eqb-true _ _ (sym c.is_empty.ensures ∙ c.if-is_empty.true), c.open_wanted.new.own.missing.ok)) in
-    let none : gone ≡ [] = sym c.in_ok-open_wanted.ensures.missing ∙ empty in
-    let wants : needs_of held need plane tier wanted ≡ [] =
-    ap (λ (xs : List ℕ). map (need stage layer.input) (cells_at cells xs)) none in
     let base_cells : List Rect = g.B.Base.cells_of c.args.source.now.base in
-    let fetches : count_of_fetches held need base_cells all_tiers wanted ≡ 0 =
-    fetches_top held need base_cells all_tiers tiers tier wanted plane top.tiers top.plane
-    ∙ ap (λ (xs : List Rect). count_of_fetches held need base_cells tiers xs) wants
-    ∙ fetches_none held need base_cells tiers in
-    sym (ap (raised (g.B.Base.fetches c.args.source.now.base)) fetches
+    sym (ap (raised (g.B.Base.fetches c.args.source.now.base))
+    (no_fetches top held g.S.Stage.needed base_cells c.args.wanted.now none)
     ∙ raised_none (g.B.Base.fetches c.args.source.now.base) (g.met.B.Base.held c.args.source.now.base))
 
 pub returns-then-is_empty-clause-fetched : goal.returns-then-is_empty-clause-fetched
 returns-then-is_empty-clause-fetched g t c =
-    let need = g.S.Stage.needed in
     let P : Plane = g.B.Base.plane c.args.source.now.base in
-    let input : Shape = shape_of P in
-    let all = c.args.stages.now in
-    let stage = c.in-Some-split_last.stage.now in
-    let layer : Layer = c.in-Some-split_last-2.layer.now in
-    let grid : Grid = c.new-grid.result in
-    let side : ℕ = c.args.side in
     let top = on_top g.S.Stage.takes g.S.Stage.shaped g.S.Stage.apply g.met.S.Stage.makes_shapes
-    g.met.S.Stage.makes_planes P c.shape-shape.result c.shape-shape.ensures.shape c.shape-shape.ensures.plane side
-    all c.in-Some-split_last.below.now stage c.args.layers.now c.in-Some-split_last-2.lower_layers.now layer grid
+    g.met.S.Stage.makes_planes P c.shape-shape.result c.shape-shape.ensures.shape c.shape-shape.ensures.plane
+    c.args.side c.args.stages.now c.in-Some-split_last.below.now c.in-Some-split_last.stage.now c.args.layers.now
+    c.in-Some-split_last-2.lower_layers.now c.in-Some-split_last-2.layer.now c.new-grid.result
     c.in-Some-split_last.ensures.cases.0 (omega (arith, c.in-Some-split_last.ensures.cases.1))
     c.in-Some-split_last-2.ensures.cases.0 c.requires.layers c.new-grid.ensures.shape c.new-grid.ensures.side in
-    let cells : List Rect = grid_cells grid.shape grid.side in
-    let plane : ℕ = length all in
-    let tier : Tier _ = tier_on stage layer grid in
-    let tiers : List (Tier _) = tiers_of g.S.Stage.shaped side input c.in-Some-split_last.below.now in
-    let all_tiers : List (Tier _) = tiers_of g.S.Stage.shaped side input all in
     let held : Held = g.C.Cache.held c.args.cache.now in
-    let wanted : List Rect = c.args.wanted.now in
-    let numbers : List ℕ = meeting cells wanted in
-    let gone : List ℕ = missing held plane numbers in
-    let empty : c.open_wanted.new.own.missing.items ≡ [] =
-    none_of c.open_wanted.new.own.missing.items
+    let none : missing held (length c.args.stages.now)
+    (meeting (grid_cells c.new-grid.result.shape c.new-grid.result.side) c.args.wanted.now) ≡ [] =
+    none_of c.open_wanted.new.own.missing.items _ c.in_ok-open_wanted.ensures.missing
     (omega (arith, eqb-true _ _ (sym c.is_empty.ensures ∙ c.if-is_empty.true), c.open_wanted.new.own.missing.ok)) in
-    let none : gone ≡ [] = sym c.in_ok-open_wanted.ensures.missing ∙ empty in
-    let wants : needs_of held need plane tier wanted ≡ [] =
-    ap (λ (xs : List ℕ). map (need stage layer.input) (cells_at cells xs)) none in
     let base_cells : List Rect = g.B.Base.cells_of c.args.source.now.base in
-    let fetches : count_of_fetches held need base_cells all_tiers wanted ≡ 0 =
-    fetches_top held need base_cells all_tiers tiers tier wanted plane top.tiers top.plane
-    ∙ ap (λ (xs : List Rect). count_of_fetches held need base_cells tiers xs) wants
-    ∙ fetches_none held need base_cells tiers in
-    sym (ap (raised c.args.source.now.fetched) fetches
+    sym (ap (raised c.args.source.now.fetched)
+    (no_fetches top held g.S.Stage.needed base_cells c.args.wanted.now none)
     ∙ raised_none c.args.source.now.fetched (omega (arith, c.if-prove-2.false)))
 
 pub returns-then-is_empty-clause-ran : goal.returns-then-is_empty-clause-ran
 returns-then-is_empty-clause-ran g t c =
-    let need = g.S.Stage.needed in
     let P : Plane = g.B.Base.plane c.args.source.now.base in
-    let input : Shape = shape_of P in
-    let all = c.args.stages.now in
-    let stage = c.in-Some-split_last.stage.now in
-    let layer : Layer = c.in-Some-split_last-2.layer.now in
-    let grid : Grid = c.new-grid.result in
-    let side : ℕ = c.args.side in
     let top = on_top g.S.Stage.takes g.S.Stage.shaped g.S.Stage.apply g.met.S.Stage.makes_shapes
-    g.met.S.Stage.makes_planes P c.shape-shape.result c.shape-shape.ensures.shape c.shape-shape.ensures.plane side
-    all c.in-Some-split_last.below.now stage c.args.layers.now c.in-Some-split_last-2.lower_layers.now layer grid
+    g.met.S.Stage.makes_planes P c.shape-shape.result c.shape-shape.ensures.shape c.shape-shape.ensures.plane
+    c.args.side c.args.stages.now c.in-Some-split_last.below.now c.in-Some-split_last.stage.now c.args.layers.now
+    c.in-Some-split_last-2.lower_layers.now c.in-Some-split_last-2.layer.now c.new-grid.result
     c.in-Some-split_last.ensures.cases.0 (omega (arith, c.in-Some-split_last.ensures.cases.1))
     c.in-Some-split_last-2.ensures.cases.0 c.requires.layers c.new-grid.ensures.shape c.new-grid.ensures.side in
-    let cells : List Rect = grid_cells grid.shape grid.side in
-    let plane : ℕ = length all in
-    let tier : Tier _ = tier_on stage layer grid in
-    let tiers : List (Tier _) = tiers_of g.S.Stage.shaped side input c.in-Some-split_last.below.now in
-    let all_tiers : List (Tier _) = tiers_of g.S.Stage.shaped side input all in
     let held : Held = g.C.Cache.held c.args.cache.now in
-    let wanted : List Rect = c.args.wanted.now in
-    let numbers : List ℕ = meeting cells wanted in
-    let gone : List ℕ = missing held plane numbers in
-    let empty : c.open_wanted.new.own.missing.items ≡ [] =
-    none_of c.open_wanted.new.own.missing.items
+    let none : missing held (length c.args.stages.now)
+    (meeting (grid_cells c.new-grid.result.shape c.new-grid.result.side) c.args.wanted.now) ≡ [] =
+    none_of c.open_wanted.new.own.missing.items _ c.in_ok-open_wanted.ensures.missing
     (omega (arith, eqb-true _ _ (sym c.is_empty.ensures ∙ c.if-is_empty.true), c.open_wanted.new.own.missing.ok)) in
-    let none : gone ≡ [] = sym c.in_ok-open_wanted.ensures.missing ∙ empty in
-    let wants : needs_of held need plane tier wanted ≡ [] =
-    ap (λ (xs : List ℕ). map (need stage layer.input) (cells_at cells xs)) none in
-    let runs : count_of_runs held need 0 all_tiers wanted ≡ 0 =
-    runs_top held need all_tiers tiers tier wanted plane top.tiers top.plane
-    ∙ ap (λ (xs : List Rect). count_of_runs held need 0 tiers xs + length gone) wants
-    ∙ ap (λ (xs : List ℕ). count_of_runs held need 0 tiers [] + length xs) none
-    ∙ ap (λ n. n + 0) (runs_none held need 0 tiers) in
-    sym (ap (raised c.args.ran.now) runs ∙ raised_none c.args.ran.now (omega (arith, c.if-prove.false)))
+    sym (ap (raised c.args.ran.now) (no_runs top held g.S.Stage.needed c.args.wanted.now none)
+    ∙ raised_none c.args.ran.now (omega (arith, c.if-prove.false)))
 
 pub returns-then-is_empty-clause-kept : goal.returns-then-is_empty-clause-kept
 returns-then-is_empty-clause-kept g t c =
-    let need = g.S.Stage.needed in
     let P : Plane = g.B.Base.plane c.args.source.now.base in
-    let input : Shape = shape_of P in
-    let all = c.args.stages.now in
-    let stage = c.in-Some-split_last.stage.now in
-    let layer : Layer = c.in-Some-split_last-2.layer.now in
-    let grid : Grid = c.new-grid.result in
-    let side : ℕ = c.args.side in
     let top = on_top g.S.Stage.takes g.S.Stage.shaped g.S.Stage.apply g.met.S.Stage.makes_shapes
-    g.met.S.Stage.makes_planes P c.shape-shape.result c.shape-shape.ensures.shape c.shape-shape.ensures.plane side
-    all c.in-Some-split_last.below.now stage c.args.layers.now c.in-Some-split_last-2.lower_layers.now layer grid
+    g.met.S.Stage.makes_planes P c.shape-shape.result c.shape-shape.ensures.shape c.shape-shape.ensures.plane
+    c.args.side c.args.stages.now c.in-Some-split_last.below.now c.in-Some-split_last.stage.now c.args.layers.now
+    c.in-Some-split_last-2.lower_layers.now c.in-Some-split_last-2.layer.now c.new-grid.result
     c.in-Some-split_last.ensures.cases.0 (omega (arith, c.in-Some-split_last.ensures.cases.1))
     c.in-Some-split_last-2.ensures.cases.0 c.requires.layers c.new-grid.ensures.shape c.new-grid.ensures.side in
-    let cells : List Rect = grid_cells grid.shape grid.side in
-    let plane : ℕ = length all in
-    let tier : Tier _ = tier_on stage layer grid in
-    let tiers : List (Tier _) = tiers_of g.S.Stage.shaped side input c.in-Some-split_last.below.now in
-    let all_tiers : List (Tier _) = tiers_of g.S.Stage.shaped side input all in
     let held : Held = g.C.Cache.held c.args.cache.now in
-    let wanted : List Rect = c.args.wanted.now in
-    let numbers : List ℕ = meeting cells wanted in
-    let gone : List ℕ = missing held plane numbers in
-    let empty : c.open_wanted.new.own.missing.items ≡ [] =
-    none_of c.open_wanted.new.own.missing.items
+    let none : missing held (length c.args.stages.now)
+    (meeting (grid_cells c.new-grid.result.shape c.new-grid.result.side) c.args.wanted.now) ≡ [] =
+    none_of c.open_wanted.new.own.missing.items _ c.in_ok-open_wanted.ensures.missing
     (omega (arith, eqb-true _ _ (sym c.is_empty.ensures ∙ c.if-is_empty.true), c.open_wanted.new.own.missing.ok)) in
-    let none : gone ≡ [] = sym c.in_ok-open_wanted.ensures.missing ∙ empty in
-    let wants : needs_of held need plane tier wanted ≡ [] =
-    ap (λ (xs : List ℕ). map (need stage layer.input) (cells_at cells xs)) none in
     let base_cells : List Rect = g.B.Base.cells_of c.args.source.now.base in
-    let planes : ℕ = P.planes in
-    let K : Kept = g.C.Cache.kept c.args.cache.now in
-    let first : Kept = brought_each K plane (fresh held plane numbers) in
-    let size : ℕ → ℕ = size_of cells grid.shape.planes in
     c.in_ok-open_wanted.ensures.kept
-    ∙ sym (keep_top held need K planes base_cells all_tiers tiers tier wanted plane top.tiers top.plane
-    ∙ ap (λ (xs : List ℕ). put_each
-    (keep held need first planes base_cells tiers (needs_of held need plane tier wanted)) plane size xs) none
-    ∙ ap (λ (xs : List Rect). keep held need first planes base_cells tiers xs) wants
-    ∙ keep_none held need first planes base_cells tiers)
+    ∙ sym (kept_fresh top held g.S.Stage.needed (g.C.Cache.kept c.args.cache.now) P.planes base_cells
+    c.args.wanted.now none)
 
 pub make-requires : goal.make-requires
 make-requires g t c κs within =
@@ -487,28 +376,16 @@ make-requires g t c κs within =
 
 pub returns-in_err-make-clause-right : goal.returns-in_err-make-clause-right
 returns-in_err-make-clause-right g t c =
-    let shaped = g.S.Stage.shaped in
     let P : Plane = g.B.Base.plane c.args.source.now.base in
-    let input : Shape = shape_of P in
-    let below = c.in-Some-split_last.below.now in
-    let side : ℕ = c.args.side in
-    let top = on_top g.S.Stage.takes shaped g.S.Stage.apply g.met.S.Stage.makes_shapes g.met.S.Stage.makes_planes P
-    c.shape-shape.result c.shape-shape.ensures.shape c.shape-shape.ensures.plane side c.args.stages.now below
-    c.in-Some-split_last.stage.now c.args.layers.now c.in-Some-split_last-2.lower_layers.now
-    c.in-Some-split_last-2.layer.now c.new-grid.result
+    let top = on_top g.S.Stage.takes g.S.Stage.shaped g.S.Stage.apply g.met.S.Stage.makes_shapes
+    g.met.S.Stage.makes_planes P c.shape-shape.result c.shape-shape.ensures.shape c.shape-shape.ensures.plane
+    c.args.side c.args.stages.now c.in-Some-split_last.below.now c.in-Some-split_last.stage.now c.args.layers.now
+    c.in-Some-split_last-2.lower_layers.now c.in-Some-split_last-2.layer.now c.new-grid.result
     c.in-Some-split_last.ensures.cases.0 (omega (arith, c.in-Some-split_last.ensures.cases.1))
     c.in-Some-split_last-2.ensures.cases.0 c.requires.layers c.new-grid.ensures.shape c.new-grid.ensures.side in
-    let tier : Tier _ = tier_on c.in-Some-split_last.stage.now c.in-Some-split_last-2.layer.now c.new-grid.result in
-    let tiers : List (Tier _) = tiers_of shaped side input below in
-    let all_tiers : List (Tier _) = tiers_of shaped side input c.args.stages.now in
-    let held : Held = g.C.Cache.held c.args.cache.now in
-    let opened : Held = g.C.Cache.held c.open_wanted.new.cache in
-    let under : Held = g.C.Cache.held c.make.new.cache in
-    let lower_rights : AreRight g.S.Stage.apply under 0 P all_tiers =
-    rights_lower g.S.Stage.apply held opened under P all_tiers tiers tier top.tiers c.open_wanted.ensures.held
-    (subst (λ (n : ℕ). TakesUpTo opened under n) (sym (tiers_length shaped side input below)) c.make.ensures.above)
-    c.requires.right c.make.ensures.right in
-    lower_rights
+    rights_below top (g.C.Cache.held c.args.cache.now) (g.C.Cache.held c.open_wanted.new.cache)
+    (g.C.Cache.held c.make.new.cache) c.open_wanted.ensures.held c.make.ensures.above c.requires.right
+    c.make.ensures.right
 
 pub run_missing-requires-clause-shape : goal.run_missing-requires-clause-shape
 run_missing-requires-clause-shape g t c =
@@ -569,26 +446,19 @@ run_missing-requires-clause-inside g t c =
 pub run_missing-requires-clause-needs : goal.run_missing-requires-clause-needs
 run_missing-requires-clause-needs g t c =
     let P : Plane = g.B.Base.plane c.args.source.now.base in
-    let grid : Grid = c.new-grid.result in
-    let cells : List Rect = grid_cells grid.shape grid.side in
-    let plane : ℕ = length c.args.stages.now in
-    let tier : Tier _ = tier_on c.in-Some-split_last.stage.now c.in-Some-split_last-2.layer.now grid in
     let held : Held = g.C.Cache.held c.args.cache.now in
-    let numbers : List ℕ = meeting cells c.args.wanted.now in
-    let gone : List ℕ = missing held plane numbers in
-    let needs : List Rect = needs_of held g.S.Stage.needed plane tier c.args.wanted.now in
-    let lent : c.deref.result.now ≡ needs = c.deref.ensures.value ∙ c.in_ok-open_wanted.ensures.needs in
-    let rest : c.deref-2.result.now ≡ gone = c.deref-2.ensures.value ∙ c.in_ok-open_wanted.ensures.missing in
+    let asked : c.deref.result.now ≡ needs_of held g.S.Stage.needed (length c.args.stages.now)
+    (tier_on c.in-Some-split_last.stage.now c.in-Some-split_last-2.layer.now c.new-grid.result) c.args.wanted.now =
+    c.deref.ensures.value ∙ c.in_ok-open_wanted.ensures.needs in
+    let rest : c.deref-2.result.now ≡ missing held (length c.args.stages.now)
+    (meeting (grid_cells c.new-grid.result.shape c.new-grid.result.side) c.args.wanted.now) =
+    c.deref-2.ensures.value ∙ c.in_ok-open_wanted.ensures.missing in
     let Q : Plane = whole_of g.S.Stage.apply c.in-Some-split_last.below.now P in
-    let f : Rect → Rect = g.S.Stage.needed c.in-Some-split_last.stage.now c.in-Some-split_last-2.layer.now.input in
-    let lent_part : Lent = c.make.new.patch in
-    let shown : All (λ k. Shows Q lent_part (f (cell_at cells k))) c.deref-2.result.now =
-    subst (λ (xs : List ℕ). All (λ k. Shows Q lent_part (f (cell_at cells k))) xs) (sym rest)
-    (unmapped (Shows Q lent_part) f cells gone (subst (λ (xs : List Rect). All (Shows Q lent_part) xs) lent
-    c.in_ok-make.ensures.shows)) in
-    subst (λ (V : Lent). All (λ k. LiesIn (f (cell_at cells k)) V.rect) c.deref-2.result.now) (sym c.view.ensures)
-    (All-weaker (λ k. Shows Q lent_part (f (cell_at cells k))) (λ k. LiesIn (f (cell_at cells k)) lent_part.rect)
-    (λ k s. s.lies) c.deref-2.result.now shown)
+    let cells : List Rect = grid_cells c.new-grid.result.shape c.new-grid.result.side in
+    let gone : List ℕ = missing held (length c.args.stages.now) (meeting cells c.args.wanted.now) in
+    let need : Rect → Rect = g.S.Stage.needed c.in-Some-split_last.stage.now c.in-Some-split_last-2.layer.now.input in
+    needs_lie Q c.make.new.patch c.view.result need cells c.deref.result.now gone c.deref-2.result.now c.view.ensures
+    asked rest c.in_ok-make.ensures.shows
 
 pub run_missing-requires-clause-lower : goal.run_missing-requires-clause-lower
 run_missing-requires-clause-lower g t c =
@@ -628,109 +498,61 @@ run_missing-requires-clause-absent g t c =
 
 pub returns-in_err-run_missing-clause-right : goal.returns-in_err-run_missing-clause-right
 returns-in_err-run_missing-clause-right g t c =
-    let shaped = g.S.Stage.shaped in
-    let apply = g.S.Stage.apply in
     let P : Plane = g.B.Base.plane c.args.source.now.base in
-    let input : Shape = shape_of P in
-    let all = c.args.stages.now in
-    let stage = c.in-Some-split_last.stage.now in
-    let below = c.in-Some-split_last.below.now in
-    let layer : Layer = c.in-Some-split_last-2.layer.now in
-    let grid : Grid = c.new-grid.result in
-    let side : ℕ = c.args.side in
-    let top = on_top g.S.Stage.takes shaped apply g.met.S.Stage.makes_shapes g.met.S.Stage.makes_planes P
-    c.shape-shape.result c.shape-shape.ensures.shape c.shape-shape.ensures.plane side all below stage
-    c.args.layers.now c.in-Some-split_last-2.lower_layers.now layer grid
+    let top = on_top g.S.Stage.takes g.S.Stage.shaped g.S.Stage.apply g.met.S.Stage.makes_shapes
+    g.met.S.Stage.makes_planes P c.shape-shape.result c.shape-shape.ensures.shape c.shape-shape.ensures.plane
+    c.args.side c.args.stages.now c.in-Some-split_last.below.now c.in-Some-split_last.stage.now c.args.layers.now
+    c.in-Some-split_last-2.lower_layers.now c.in-Some-split_last-2.layer.now c.new-grid.result
     c.in-Some-split_last.ensures.cases.0 (omega (arith, c.in-Some-split_last.ensures.cases.1))
     c.in-Some-split_last-2.ensures.cases.0 c.requires.layers c.new-grid.ensures.shape c.new-grid.ensures.side in
-    let cells : List Rect = grid_cells grid.shape grid.side in
-    let plane : ℕ = length all in
-    let tier : Tier _ = tier_on stage layer grid in
-    let tiers : List (Tier _) = tiers_of shaped side input below in
-    let all_tiers : List (Tier _) = tiers_of shaped side input all in
     let held : Held = g.C.Cache.held c.args.cache.now in
-    let opened : Held = g.C.Cache.held c.open_wanted.new.cache in
-    let numbers : List ℕ = meeting cells c.args.wanted.now in
-    let gone : List ℕ = missing held plane numbers in
-    let needs : List Rect = needs_of held g.S.Stage.needed plane tier c.args.wanted.now in
-    let lent : c.deref.result.now ≡ needs = c.deref.ensures.value ∙ c.in_ok-open_wanted.ensures.needs in
-    let rest : c.deref-2.result.now ≡ gone = c.deref-2.ensures.value ∙ c.in_ok-open_wanted.ensures.missing in
+    let asked : c.deref.result.now ≡ needs_of held g.S.Stage.needed (length c.args.stages.now)
+    (tier_on c.in-Some-split_last.stage.now c.in-Some-split_last-2.layer.now c.new-grid.result) c.args.wanted.now =
+    c.deref.ensures.value ∙ c.in_ok-open_wanted.ensures.needs in
+    let rest : c.deref-2.result.now ≡ missing held (length c.args.stages.now)
+    (meeting (grid_cells c.new-grid.result.shape c.new-grid.result.side) c.args.wanted.now) =
+    c.deref-2.ensures.value ∙ c.in_ok-open_wanted.ensures.missing in
+    let Q : Plane = whole_of g.S.Stage.apply c.in-Some-split_last.below.now P in
+    let cells : List Rect = grid_cells c.new-grid.result.shape c.new-grid.result.side in
+    let gone : List ℕ = missing held (length c.args.stages.now) (meeting cells c.args.wanted.now) in
+    let need : Rect → Rect = g.S.Stage.needed c.in-Some-split_last.stage.now c.in-Some-split_last-2.layer.now.input in
+    let agrees : All (λ k. AgreesWith Q c.view.result (need (cell_at cells k))) c.deref-2.result.now =
+    needs_agree Q c.make.new.patch c.view.result need cells c.deref.result.now gone c.deref-2.result.now c.view.ensures
+    asked rest c.in_ok-make.ensures.shows in
     let under : Held = g.C.Cache.held c.make.new.cache in
-    let Q : Plane = whole_of apply below P in
-    let f : Rect → Rect = g.S.Stage.needed stage layer.input in
-    let lent_part : Lent = c.make.new.patch in
-    let shown : All (λ k. Shows Q lent_part (f (cell_at cells k))) c.deref-2.result.now =
-    subst (λ (xs : List ℕ). All (λ k. Shows Q lent_part (f (cell_at cells k))) xs) (sym rest)
-    (unmapped (Shows Q lent_part) f cells gone (subst (λ (xs : List Rect). All (Shows Q lent_part) xs) lent
-    c.in_ok-make.ensures.shows)) in
-    let agrees : All (λ k. AgreesWith Q c.view.result (f (cell_at cells k))) c.deref-2.result.now =
-    subst (λ (V : Lent). All (λ k. AgreesWith Q V (f (cell_at cells k))) c.deref-2.result.now) (sym c.view.ensures)
-    (All-weaker (λ k. Shows Q lent_part (f (cell_at cells k))) (λ k. AgreesWith Q lent_part (f (cell_at cells k)))
-    (λ k s. s.agrees) c.deref-2.result.now shown) in
-    let lower_rights : AreRight apply under 0 P all_tiers =
-    rights_lower apply held opened under P all_tiers tiers tier top.tiers c.open_wanted.ensures.held
-    (subst (λ (n : ℕ). TakesUpTo opened under n) (sym (tiers_length shaped side input below)) c.make.ensures.above)
-    c.requires.right c.make.ensures.right in
-    let new : Held = g.C.Cache.held c.run_missing.new.cache in
-    let step : IsRight under plane (apply stage (developed apply tiers P)) cells
-    → IsRight new plane (apply stage (developed apply tiers P)) cells =
-    subst (λ (X : Plane). IsRight under plane (apply stage X) cells → IsRight new plane (apply stage X) cells)
-    (sym (developed_is shaped apply side input below P)) (c.run_missing.ensures.right Q top.lower agrees) in
-    rights_run apply under new P all_tiers tiers tier plane top.tiers top.plane c.run_missing.ensures.others step
-    lower_rights
+    rights_above top under (g.C.Cache.held c.run_missing.new.cache) c.run_missing.ensures.others
+    (c.run_missing.ensures.right Q top.lower agrees)
+    (rights_below top held (g.C.Cache.held c.open_wanted.new.cache) under c.open_wanted.ensures.held
+    c.make.ensures.above c.requires.right c.make.ensures.right)
 
 pub returns-clause-right : goal.returns-clause-right
 returns-clause-right g t c =
-    let shaped = g.S.Stage.shaped in
-    let apply = g.S.Stage.apply in
     let P : Plane = g.B.Base.plane c.args.source.now.base in
-    let input : Shape = shape_of P in
-    let all = c.args.stages.now in
-    let stage = c.in-Some-split_last.stage.now in
-    let below = c.in-Some-split_last.below.now in
-    let layer : Layer = c.in-Some-split_last-2.layer.now in
-    let grid : Grid = c.new-grid.result in
-    let side : ℕ = c.args.side in
-    let top = on_top g.S.Stage.takes shaped apply g.met.S.Stage.makes_shapes g.met.S.Stage.makes_planes P
-    c.shape-shape.result c.shape-shape.ensures.shape c.shape-shape.ensures.plane side all below stage
-    c.args.layers.now c.in-Some-split_last-2.lower_layers.now layer grid
+    let top = on_top g.S.Stage.takes g.S.Stage.shaped g.S.Stage.apply g.met.S.Stage.makes_shapes
+    g.met.S.Stage.makes_planes P c.shape-shape.result c.shape-shape.ensures.shape c.shape-shape.ensures.plane
+    c.args.side c.args.stages.now c.in-Some-split_last.below.now c.in-Some-split_last.stage.now c.args.layers.now
+    c.in-Some-split_last-2.lower_layers.now c.in-Some-split_last-2.layer.now c.new-grid.result
     c.in-Some-split_last.ensures.cases.0 (omega (arith, c.in-Some-split_last.ensures.cases.1))
     c.in-Some-split_last-2.ensures.cases.0 c.requires.layers c.new-grid.ensures.shape c.new-grid.ensures.side in
-    let cells : List Rect = grid_cells grid.shape grid.side in
-    let plane : ℕ = length all in
-    let tier : Tier _ = tier_on stage layer grid in
-    let tiers : List (Tier _) = tiers_of shaped side input below in
-    let all_tiers : List (Tier _) = tiers_of shaped side input all in
     let held : Held = g.C.Cache.held c.args.cache.now in
-    let opened : Held = g.C.Cache.held c.open_wanted.new.cache in
-    let numbers : List ℕ = meeting cells c.args.wanted.now in
-    let gone : List ℕ = missing held plane numbers in
-    let needs : List Rect = needs_of held g.S.Stage.needed plane tier c.args.wanted.now in
-    let lent : c.deref.result.now ≡ needs = c.deref.ensures.value ∙ c.in_ok-open_wanted.ensures.needs in
-    let rest : c.deref-2.result.now ≡ gone = c.deref-2.ensures.value ∙ c.in_ok-open_wanted.ensures.missing in
+    let asked : c.deref.result.now ≡ needs_of held g.S.Stage.needed (length c.args.stages.now)
+    (tier_on c.in-Some-split_last.stage.now c.in-Some-split_last-2.layer.now c.new-grid.result) c.args.wanted.now =
+    c.deref.ensures.value ∙ c.in_ok-open_wanted.ensures.needs in
+    let rest : c.deref-2.result.now ≡ missing held (length c.args.stages.now)
+    (meeting (grid_cells c.new-grid.result.shape c.new-grid.result.side) c.args.wanted.now) =
+    c.deref-2.ensures.value ∙ c.in_ok-open_wanted.ensures.missing in
+    let Q : Plane = whole_of g.S.Stage.apply c.in-Some-split_last.below.now P in
+    let cells : List Rect = grid_cells c.new-grid.result.shape c.new-grid.result.side in
+    let gone : List ℕ = missing held (length c.args.stages.now) (meeting cells c.args.wanted.now) in
+    let need : Rect → Rect = g.S.Stage.needed c.in-Some-split_last.stage.now c.in-Some-split_last-2.layer.now.input in
+    let agrees : All (λ k. AgreesWith Q c.view.result (need (cell_at cells k))) c.deref-2.result.now =
+    needs_agree Q c.make.new.patch c.view.result need cells c.deref.result.now gone c.deref-2.result.now c.view.ensures
+    asked rest c.in_ok-make.ensures.shows in
     let under : Held = g.C.Cache.held c.make.new.cache in
-    let Q : Plane = whole_of apply below P in
-    let f : Rect → Rect = g.S.Stage.needed stage layer.input in
-    let lent_part : Lent = c.make.new.patch in
-    let shown : All (λ k. Shows Q lent_part (f (cell_at cells k))) c.deref-2.result.now =
-    subst (λ (xs : List ℕ). All (λ k. Shows Q lent_part (f (cell_at cells k))) xs) (sym rest)
-    (unmapped (Shows Q lent_part) f cells gone (subst (λ (xs : List Rect). All (Shows Q lent_part) xs) lent
-    c.in_ok-make.ensures.shows)) in
-    let agrees : All (λ k. AgreesWith Q c.view.result (f (cell_at cells k))) c.deref-2.result.now =
-    subst (λ (V : Lent). All (λ k. AgreesWith Q V (f (cell_at cells k))) c.deref-2.result.now) (sym c.view.ensures)
-    (All-weaker (λ k. Shows Q lent_part (f (cell_at cells k))) (λ k. AgreesWith Q lent_part (f (cell_at cells k)))
-    (λ k s. s.agrees) c.deref-2.result.now shown) in
-    let lower_rights : AreRight apply under 0 P all_tiers =
-    rights_lower apply held opened under P all_tiers tiers tier top.tiers c.open_wanted.ensures.held
-    (subst (λ (n : ℕ). TakesUpTo opened under n) (sym (tiers_length shaped side input below)) c.make.ensures.above)
-    c.requires.right c.make.ensures.right in
-    let new : Held = g.C.Cache.held c.run_missing.new.cache in
-    let step : IsRight under plane (apply stage (developed apply tiers P)) cells
-    → IsRight new plane (apply stage (developed apply tiers P)) cells =
-    subst (λ (X : Plane). IsRight under plane (apply stage X) cells → IsRight new plane (apply stage X) cells)
-    (sym (developed_is shaped apply side input below P)) (c.run_missing.ensures.right Q top.lower agrees) in
-    rights_run apply under new P all_tiers tiers tier plane top.tiers top.plane c.run_missing.ensures.others step
-    lower_rights
+    rights_above top under (g.C.Cache.held c.run_missing.new.cache) c.run_missing.ensures.others
+    (c.run_missing.ensures.right Q top.lower agrees)
+    (rights_below top held (g.C.Cache.held c.open_wanted.new.cache) under c.open_wanted.ensures.held
+    c.make.ensures.above c.requires.right c.make.ensures.right)
 
 pub returns-in_err-run_missing-clause-above : goal.returns-in_err-run_missing-clause-above
 returns-in_err-run_missing-clause-above g t c =
@@ -782,43 +604,35 @@ returns-clause-planes g t c =
 
 pub returns-clause-shows : goal.returns-clause-shows
 returns-clause-shows g t c =
-    let apply = g.S.Stage.apply in
     let P : Plane = g.B.Base.plane c.args.source.now.base in
-    let input : Shape = shape_of P in
-    let all = c.args.stages.now in
-    let stage = c.in-Some-split_last.stage.now in
-    let below = c.in-Some-split_last.below.now in
-    let layer : Layer = c.in-Some-split_last-2.layer.now in
-    let grid : Grid = c.new-grid.result in
-    let top = on_top g.S.Stage.takes g.S.Stage.shaped apply g.met.S.Stage.makes_shapes g.met.S.Stage.makes_planes P
-    c.shape-shape.result c.shape-shape.ensures.shape c.shape-shape.ensures.plane c.args.side all below stage
-    c.args.layers.now c.in-Some-split_last-2.lower_layers.now layer grid
+    let top = on_top g.S.Stage.takes g.S.Stage.shaped g.S.Stage.apply g.met.S.Stage.makes_shapes
+    g.met.S.Stage.makes_planes P c.shape-shape.result c.shape-shape.ensures.shape c.shape-shape.ensures.plane
+    c.args.side c.args.stages.now c.in-Some-split_last.below.now c.in-Some-split_last.stage.now c.args.layers.now
+    c.in-Some-split_last-2.lower_layers.now c.in-Some-split_last-2.layer.now c.new-grid.result
     c.in-Some-split_last.ensures.cases.0 (omega (arith, c.in-Some-split_last.ensures.cases.1))
     c.in-Some-split_last-2.ensures.cases.0 c.requires.layers c.new-grid.ensures.shape c.new-grid.ensures.side in
-    let cells : List Rect = grid_cells grid.shape grid.side in
-    let plane : ℕ = length all in
-    let tier : Tier _ = tier_on stage layer grid in
     let held : Held = g.C.Cache.held c.args.cache.now in
+    let asked : c.deref.result.now ≡ needs_of held g.S.Stage.needed (length c.args.stages.now)
+    (tier_on c.in-Some-split_last.stage.now c.in-Some-split_last-2.layer.now c.new-grid.result) c.args.wanted.now =
+    c.deref.ensures.value ∙ c.in_ok-open_wanted.ensures.needs in
+    let rest : c.deref-2.result.now ≡ missing held (length c.args.stages.now)
+    (meeting (grid_cells c.new-grid.result.shape c.new-grid.result.side) c.args.wanted.now) =
+    c.deref-2.ensures.value ∙ c.in_ok-open_wanted.ensures.missing in
+    let Q : Plane = whole_of g.S.Stage.apply c.in-Some-split_last.below.now P in
+    let cells : List Rect = grid_cells c.new-grid.result.shape c.new-grid.result.side in
+    let gone : List ℕ = missing held (length c.args.stages.now) (meeting cells c.args.wanted.now) in
+    let need : Rect → Rect = g.S.Stage.needed c.in-Some-split_last.stage.now c.in-Some-split_last-2.layer.now.input in
+    let agrees : All (λ k. AgreesWith Q c.view.result (need (cell_at cells k))) c.deref-2.result.now =
+    needs_agree Q c.make.new.patch c.view.result need cells c.deref.result.now gone c.deref-2.result.now c.view.ensures
+    asked rest c.in_ok-make.ensures.shows in
+    let grid : Grid = c.new-grid.result in
     let wanted : List Rect = c.args.wanted.now in
-    let kept = held_on_top g.S.Stage.takes g.S.Stage.shaped apply held input P c.args.side all below stage
-    c.in-Some-split_last-2.lower_layers.now layer grid top c.requires.right in
     let numbers : List ℕ = meeting cells wanted in
-    let gone : List ℕ = missing held plane numbers in
-    let needs : List Rect = needs_of held g.S.Stage.needed plane tier wanted in
-    let lent : c.deref.result.now ≡ needs = c.deref.ensures.value ∙ c.in_ok-open_wanted.ensures.needs in
-    let rest : c.deref-2.result.now ≡ gone = c.deref-2.ensures.value ∙ c.in_ok-open_wanted.ensures.missing in
-    let Q : Plane = whole_of apply below P in
-    let R : Plane = apply stage Q in
-    let f : Rect → Rect = g.S.Stage.needed stage layer.input in
-    let lent_part : Lent = c.make.new.patch in
-    let shown : All (λ k. Shows Q lent_part (f (cell_at cells k))) c.deref-2.result.now =
-    subst (λ (xs : List ℕ). All (λ k. Shows Q lent_part (f (cell_at cells k))) xs) (sym rest)
-    (unmapped (Shows Q lent_part) f cells gone (subst (λ (xs : List Rect). All (Shows Q lent_part) xs) lent
-    c.in_ok-make.ensures.shows)) in
-    let agrees : All (λ k. AgreesWith Q c.view.result (f (cell_at cells k))) c.deref-2.result.now =
-    subst (λ (V : Lent). All (λ k. AgreesWith Q V (f (cell_at cells k))) c.deref-2.result.now) (sym c.view.ensures)
-    (All-weaker (λ k. Shows Q lent_part (f (cell_at cells k))) (λ k. AgreesWith Q lent_part (f (cell_at cells k)))
-    (λ k s. s.agrees) c.deref-2.result.now shown) in
+    let plane : ℕ = length c.args.stages.now in
+    let kept = held_on_top g.S.Stage.takes g.S.Stage.shaped g.S.Stage.apply held (shape_of P) P c.args.side
+    c.args.stages.now c.in-Some-split_last.below.now c.in-Some-split_last.stage.now
+    c.in-Some-split_last-2.lower_layers.now c.in-Some-split_last-2.layer.now grid top c.requires.right in
+    let R : Plane = g.S.Stage.apply c.in-Some-split_last.stage.now Q in
     let parts : All (λ (rect : Rect). IsPart rect grid.shape) wanted =
     subst (λ (t : Shape). All (λ (rect : Rect). IsPart rect t) wanted) top.last c.requires.wanted in
     let up = grid_makes_up grid.shape grid.side (omega (arith, grid.least)) in
@@ -837,180 +651,108 @@ returns-clause-shows g t c =
 
 pub returns-clause-work : goal.returns-clause-work
 returns-clause-work g t c =
-    let need = g.S.Stage.needed in
     let P : Plane = g.B.Base.plane c.args.source.now.base in
-    let input : Shape = shape_of P in
-    let all = c.args.stages.now in
-    let grid : Grid = c.new-grid.result in
-    let side : ℕ = c.args.side in
     let top = on_top g.S.Stage.takes g.S.Stage.shaped g.S.Stage.apply g.met.S.Stage.makes_shapes
-    g.met.S.Stage.makes_planes P c.shape-shape.result c.shape-shape.ensures.shape c.shape-shape.ensures.plane side
-    all c.in-Some-split_last.below.now c.in-Some-split_last.stage.now c.args.layers.now
-    c.in-Some-split_last-2.lower_layers.now c.in-Some-split_last-2.layer.now grid
+    g.met.S.Stage.makes_planes P c.shape-shape.result c.shape-shape.ensures.shape c.shape-shape.ensures.plane
+    c.args.side c.args.stages.now c.in-Some-split_last.below.now c.in-Some-split_last.stage.now c.args.layers.now
+    c.in-Some-split_last-2.lower_layers.now c.in-Some-split_last-2.layer.now c.new-grid.result
     c.in-Some-split_last.ensures.cases.0 (omega (arith, c.in-Some-split_last.ensures.cases.1))
     c.in-Some-split_last-2.ensures.cases.0 c.requires.layers c.new-grid.ensures.shape c.new-grid.ensures.side in
-    let cells : List Rect = grid_cells grid.shape grid.side in
-    let plane : ℕ = length all in
-    let tier : Tier _ = tier_on c.in-Some-split_last.stage.now c.in-Some-split_last-2.layer.now grid in
-    let tiers : List (Tier _) = tiers_of g.S.Stage.shaped side input c.in-Some-split_last.below.now in
-    let all_tiers : List (Tier _) = tiers_of g.S.Stage.shaped side input all in
     let held : Held = g.C.Cache.held c.args.cache.now in
-    let wanted : List Rect = c.args.wanted.now in
     let opened : Held = g.C.Cache.held c.open_wanted.new.cache in
-    let numbers : List ℕ = meeting cells wanted in
-    let gone : List ℕ = missing held plane numbers in
-    let needs : List Rect = needs_of held need plane tier wanted in
-    let lent : c.deref.result.now ≡ needs = c.deref.ensures.value ∙ c.in_ok-open_wanted.ensures.needs in
-    let rest : c.deref-2.result.now ≡ gone = c.deref-2.ensures.value ∙ c.in_ok-open_wanted.ensures.missing in
+    let asked : c.deref.result.now ≡ needs_of held g.S.Stage.needed (length c.args.stages.now)
+    (tier_on c.in-Some-split_last.stage.now c.in-Some-split_last-2.layer.now c.new-grid.result) c.args.wanted.now =
+    c.deref.ensures.value ∙ c.in_ok-open_wanted.ensures.needs in
+    let rest : c.deref-2.result.now ≡ missing held (length c.args.stages.now)
+    (meeting (grid_cells c.new-grid.result.shape c.new-grid.result.side) c.args.wanted.now) =
+    c.deref-2.ensures.value ∙ c.in_ok-open_wanted.ensures.missing in
     let base_cells : List Rect = g.B.Base.cells_of c.args.source.now.base in
-    let fetches : count_of_fetches held need base_cells all_tiers wanted ≡ count_of_fetches opened need base_cells tiers
-    c.deref.result.now =
-    fetches_top held need base_cells all_tiers tiers tier wanted plane top.tiers top.plane
-    ∙ ap (λ (xs : List Rect). count_of_fetches held need base_cells tiers xs) (sym lent)
-    ∙ sym (fetches_same held opened need base_cells tiers c.deref.result.now c.open_wanted.ensures.held.holds) in
-    let runs : count_of_runs held need 0 all_tiers wanted ≡ count_of_runs opened need 0 tiers c.deref.result.now +
-    length gone =
-    runs_top held need all_tiers tiers tier wanted plane top.tiers top.plane
-    ∙ ap (λ n. n + length gone) (ap (λ (xs : List Rect). count_of_runs held need 0 tiers xs) (sym lent)
-    ∙ sym (runs_same held opened need 0 tiers c.deref.result.now c.open_wanted.ensures.held.holds)) in
+    let fetches = fetches_below top held opened g.S.Stage.needed base_cells c.args.wanted.now c.deref.result.now
+    c.open_wanted.ensures.held asked in
+    let runs = runs_below top held opened g.S.Stage.needed c.args.wanted.now c.deref.result.now
+    c.open_wanted.ensures.held asked in
     omega (arith, c.in_ok-run_missing.ensures.work, c.in_ok-make.ensures.work, fetches, runs, ap length rest)
 
 pub returns-clause-count : goal.returns-clause-count
 returns-clause-count g t c =
-    let need = g.S.Stage.needed in
     let P : Plane = g.B.Base.plane c.args.source.now.base in
-    let input : Shape = shape_of P in
-    let all = c.args.stages.now in
-    let side : ℕ = c.args.side in
     let top = on_top g.S.Stage.takes g.S.Stage.shaped g.S.Stage.apply g.met.S.Stage.makes_shapes
-    g.met.S.Stage.makes_planes P c.shape-shape.result c.shape-shape.ensures.shape c.shape-shape.ensures.plane side
-    all c.in-Some-split_last.below.now c.in-Some-split_last.stage.now c.args.layers.now
+    g.met.S.Stage.makes_planes P c.shape-shape.result c.shape-shape.ensures.shape c.shape-shape.ensures.plane
+    c.args.side c.args.stages.now c.in-Some-split_last.below.now c.in-Some-split_last.stage.now c.args.layers.now
     c.in-Some-split_last-2.lower_layers.now c.in-Some-split_last-2.layer.now c.new-grid.result
     c.in-Some-split_last.ensures.cases.0 (omega (arith, c.in-Some-split_last.ensures.cases.1))
     c.in-Some-split_last-2.ensures.cases.0 c.requires.layers c.new-grid.ensures.shape c.new-grid.ensures.side in
-    let plane : ℕ = length all in
-    let tier : Tier _ = tier_on c.in-Some-split_last.stage.now c.in-Some-split_last-2.layer.now c.new-grid.result in
-    let tiers : List (Tier _) = tiers_of g.S.Stage.shaped side input c.in-Some-split_last.below.now in
-    let all_tiers : List (Tier _) = tiers_of g.S.Stage.shaped side input all in
     let held : Held = g.C.Cache.held c.args.cache.now in
-    let wanted : List Rect = c.args.wanted.now in
     let opened : Held = g.C.Cache.held c.open_wanted.new.cache in
-    let needs : List Rect = needs_of held need plane tier wanted in
-    let lent : c.deref.result.now ≡ needs = c.deref.ensures.value ∙ c.in_ok-open_wanted.ensures.needs in
+    let asked : c.deref.result.now ≡ needs_of held g.S.Stage.needed (length c.args.stages.now)
+    (tier_on c.in-Some-split_last.stage.now c.in-Some-split_last-2.layer.now c.new-grid.result) c.args.wanted.now =
+    c.deref.ensures.value ∙ c.in_ok-open_wanted.ensures.needs in
     let base_cells : List Rect = g.B.Base.cells_of c.args.source.now.base in
-    let fetches : count_of_fetches held need base_cells all_tiers wanted ≡ count_of_fetches opened need base_cells tiers
-    c.deref.result.now =
-    fetches_top held need base_cells all_tiers tiers tier wanted plane top.tiers top.plane
-    ∙ ap (λ (xs : List Rect). count_of_fetches held need base_cells tiers xs) (sym lent)
-    ∙ sym (fetches_same held opened need base_cells tiers c.deref.result.now c.open_wanted.ensures.held.holds) in
+    let fetches = fetches_below top held opened g.S.Stage.needed base_cells c.args.wanted.now c.deref.result.now
+    c.open_wanted.ensures.held asked in
     c.in_ok-make.ensures.count ∙ ap (raised (g.B.Base.fetches c.args.source.now.base)) (sym fetches)
 
 pub returns-clause-fetched : goal.returns-clause-fetched
 returns-clause-fetched g t c =
-    let need = g.S.Stage.needed in
     let P : Plane = g.B.Base.plane c.args.source.now.base in
-    let input : Shape = shape_of P in
-    let all = c.args.stages.now in
-    let side : ℕ = c.args.side in
     let top = on_top g.S.Stage.takes g.S.Stage.shaped g.S.Stage.apply g.met.S.Stage.makes_shapes
-    g.met.S.Stage.makes_planes P c.shape-shape.result c.shape-shape.ensures.shape c.shape-shape.ensures.plane side
-    all c.in-Some-split_last.below.now c.in-Some-split_last.stage.now c.args.layers.now
+    g.met.S.Stage.makes_planes P c.shape-shape.result c.shape-shape.ensures.shape c.shape-shape.ensures.plane
+    c.args.side c.args.stages.now c.in-Some-split_last.below.now c.in-Some-split_last.stage.now c.args.layers.now
     c.in-Some-split_last-2.lower_layers.now c.in-Some-split_last-2.layer.now c.new-grid.result
     c.in-Some-split_last.ensures.cases.0 (omega (arith, c.in-Some-split_last.ensures.cases.1))
     c.in-Some-split_last-2.ensures.cases.0 c.requires.layers c.new-grid.ensures.shape c.new-grid.ensures.side in
-    let plane : ℕ = length all in
-    let tier : Tier _ = tier_on c.in-Some-split_last.stage.now c.in-Some-split_last-2.layer.now c.new-grid.result in
-    let tiers : List (Tier _) = tiers_of g.S.Stage.shaped side input c.in-Some-split_last.below.now in
-    let all_tiers : List (Tier _) = tiers_of g.S.Stage.shaped side input all in
     let held : Held = g.C.Cache.held c.args.cache.now in
-    let wanted : List Rect = c.args.wanted.now in
     let opened : Held = g.C.Cache.held c.open_wanted.new.cache in
-    let needs : List Rect = needs_of held need plane tier wanted in
-    let lent : c.deref.result.now ≡ needs = c.deref.ensures.value ∙ c.in_ok-open_wanted.ensures.needs in
+    let asked : c.deref.result.now ≡ needs_of held g.S.Stage.needed (length c.args.stages.now)
+    (tier_on c.in-Some-split_last.stage.now c.in-Some-split_last-2.layer.now c.new-grid.result) c.args.wanted.now =
+    c.deref.ensures.value ∙ c.in_ok-open_wanted.ensures.needs in
     let base_cells : List Rect = g.B.Base.cells_of c.args.source.now.base in
-    let fetches : count_of_fetches held need base_cells all_tiers wanted ≡ count_of_fetches opened need base_cells tiers
-    c.deref.result.now =
-    fetches_top held need base_cells all_tiers tiers tier wanted plane top.tiers top.plane
-    ∙ ap (λ (xs : List Rect). count_of_fetches held need base_cells tiers xs) (sym lent)
-    ∙ sym (fetches_same held opened need base_cells tiers c.deref.result.now c.open_wanted.ensures.held.holds) in
+    let fetches = fetches_below top held opened g.S.Stage.needed base_cells c.args.wanted.now c.deref.result.now
+    c.open_wanted.ensures.held asked in
     c.in_ok-make.ensures.fetched ∙ ap (raised c.args.source.now.fetched) (sym fetches)
 
 pub returns-clause-ran : goal.returns-clause-ran
 returns-clause-ran g t c =
-    let need = g.S.Stage.needed in
     let P : Plane = g.B.Base.plane c.args.source.now.base in
-    let input : Shape = shape_of P in
-    let all = c.args.stages.now in
-    let grid : Grid = c.new-grid.result in
-    let side : ℕ = c.args.side in
     let top = on_top g.S.Stage.takes g.S.Stage.shaped g.S.Stage.apply g.met.S.Stage.makes_shapes
-    g.met.S.Stage.makes_planes P c.shape-shape.result c.shape-shape.ensures.shape c.shape-shape.ensures.plane side
-    all c.in-Some-split_last.below.now c.in-Some-split_last.stage.now c.args.layers.now
-    c.in-Some-split_last-2.lower_layers.now c.in-Some-split_last-2.layer.now grid
+    g.met.S.Stage.makes_planes P c.shape-shape.result c.shape-shape.ensures.shape c.shape-shape.ensures.plane
+    c.args.side c.args.stages.now c.in-Some-split_last.below.now c.in-Some-split_last.stage.now c.args.layers.now
+    c.in-Some-split_last-2.lower_layers.now c.in-Some-split_last-2.layer.now c.new-grid.result
     c.in-Some-split_last.ensures.cases.0 (omega (arith, c.in-Some-split_last.ensures.cases.1))
     c.in-Some-split_last-2.ensures.cases.0 c.requires.layers c.new-grid.ensures.shape c.new-grid.ensures.side in
-    let cells : List Rect = grid_cells grid.shape grid.side in
-    let plane : ℕ = length all in
-    let tier : Tier _ = tier_on c.in-Some-split_last.stage.now c.in-Some-split_last-2.layer.now grid in
-    let tiers : List (Tier _) = tiers_of g.S.Stage.shaped side input c.in-Some-split_last.below.now in
-    let all_tiers : List (Tier _) = tiers_of g.S.Stage.shaped side input all in
     let held : Held = g.C.Cache.held c.args.cache.now in
-    let wanted : List Rect = c.args.wanted.now in
     let opened : Held = g.C.Cache.held c.open_wanted.new.cache in
-    let numbers : List ℕ = meeting cells wanted in
-    let gone : List ℕ = missing held plane numbers in
-    let needs : List Rect = needs_of held need plane tier wanted in
-    let lent : c.deref.result.now ≡ needs = c.deref.ensures.value ∙ c.in_ok-open_wanted.ensures.needs in
-    let runs : count_of_runs held need 0 all_tiers wanted ≡ count_of_runs opened need 0 tiers c.deref.result.now +
-    length gone =
-    runs_top held need all_tiers tiers tier wanted plane top.tiers top.plane
-    ∙ ap (λ n. n + length gone) (ap (λ (xs : List Rect). count_of_runs held need 0 tiers xs) (sym lent)
-    ∙ sym (runs_same held opened need 0 tiers c.deref.result.now c.open_wanted.ensures.held.holds)) in
-    let many : length c.open_wanted.new.own.missing.items ≡ length gone =
-    ap length c.in_ok-open_wanted.ensures.missing in
+    let asked : c.deref.result.now ≡ needs_of held g.S.Stage.needed (length c.args.stages.now)
+    (tier_on c.in-Some-split_last.stage.now c.in-Some-split_last-2.layer.now c.new-grid.result) c.args.wanted.now =
+    c.deref.ensures.value ∙ c.in_ok-open_wanted.ensures.needs in
+    let runs = runs_below top held opened g.S.Stage.needed c.args.wanted.now c.deref.result.now
+    c.open_wanted.ensures.held asked in
+    let many = ap length c.in_ok-open_wanted.ensures.missing in
     omega (arith, many, c.in_ok-make.ensures.ran, runs, c.saturating_add.ensures, c.len.ensures)
 
 pub returns-clause-kept : goal.returns-clause-kept
 returns-clause-kept g t c =
-    let need = g.S.Stage.needed in
     let P : Plane = g.B.Base.plane c.args.source.now.base in
-    let input : Shape = shape_of P in
-    let all = c.args.stages.now in
-    let grid : Grid = c.new-grid.result in
-    let side : ℕ = c.args.side in
     let top = on_top g.S.Stage.takes g.S.Stage.shaped g.S.Stage.apply g.met.S.Stage.makes_shapes
-    g.met.S.Stage.makes_planes P c.shape-shape.result c.shape-shape.ensures.shape c.shape-shape.ensures.plane side
-    all c.in-Some-split_last.below.now c.in-Some-split_last.stage.now c.args.layers.now
-    c.in-Some-split_last-2.lower_layers.now c.in-Some-split_last-2.layer.now grid
+    g.met.S.Stage.makes_planes P c.shape-shape.result c.shape-shape.ensures.shape c.shape-shape.ensures.plane
+    c.args.side c.args.stages.now c.in-Some-split_last.below.now c.in-Some-split_last.stage.now c.args.layers.now
+    c.in-Some-split_last-2.lower_layers.now c.in-Some-split_last-2.layer.now c.new-grid.result
     c.in-Some-split_last.ensures.cases.0 (omega (arith, c.in-Some-split_last.ensures.cases.1))
     c.in-Some-split_last-2.ensures.cases.0 c.requires.layers c.new-grid.ensures.shape c.new-grid.ensures.side in
-    let cells : List Rect = grid_cells grid.shape grid.side in
-    let plane : ℕ = length all in
-    let tier : Tier _ = tier_on c.in-Some-split_last.stage.now c.in-Some-split_last-2.layer.now grid in
-    let tiers : List (Tier _) = tiers_of g.S.Stage.shaped side input c.in-Some-split_last.below.now in
-    let all_tiers : List (Tier _) = tiers_of g.S.Stage.shaped side input all in
     let held : Held = g.C.Cache.held c.args.cache.now in
-    let wanted : List Rect = c.args.wanted.now in
     let opened : Held = g.C.Cache.held c.open_wanted.new.cache in
-    let numbers : List ℕ = meeting cells wanted in
-    let gone : List ℕ = missing held plane numbers in
-    let needs : List Rect = needs_of held need plane tier wanted in
-    let lent : c.deref.result.now ≡ needs = c.deref.ensures.value ∙ c.in_ok-open_wanted.ensures.needs in
-    let rest : c.deref-2.result.now ≡ gone = c.deref-2.ensures.value ∙ c.in_ok-open_wanted.ensures.missing in
+    let asked : c.deref.result.now ≡ needs_of held g.S.Stage.needed (length c.args.stages.now)
+    (tier_on c.in-Some-split_last.stage.now c.in-Some-split_last-2.layer.now c.new-grid.result) c.args.wanted.now =
+    c.deref.ensures.value ∙ c.in_ok-open_wanted.ensures.needs in
+    let rest : c.deref-2.result.now ≡ missing held (length c.args.stages.now)
+    (meeting (grid_cells c.new-grid.result.shape c.new-grid.result.side) c.args.wanted.now) =
+    c.deref-2.ensures.value ∙ c.in_ok-open_wanted.ensures.missing in
     let base_cells : List Rect = g.B.Base.cells_of c.args.source.now.base in
-    let planes : ℕ = P.planes in
-    let size : ℕ → ℕ = size_of cells grid.shape.planes in
-    let K : Kept = g.C.Cache.kept c.args.cache.now in
-    let K_opened : Kept = g.C.Cache.kept c.open_wanted.new.cache in
     let K_under : Kept = g.C.Cache.kept c.make.new.cache in
-    let first : Kept = brought_each K plane (fresh held plane numbers) in
-    let lower_kept : K_under ≡ keep held need first planes base_cells tiers needs =
-    c.in_ok-make.ensures.kept
-    ∙ keep_same held opened need K_opened planes base_cells tiers c.deref.result.now
-    (λ p k. c.open_wanted.ensures.held.holds p k)
-    ∙ ap (λ (rects : List Rect). keep held need K_opened planes base_cells tiers rects) lent
-    ∙ ap (λ (d : Kept). keep held need d planes base_cells tiers needs) c.in_ok-open_wanted.ensures.kept in
+    let grid : Grid = c.new-grid.result in
+    let size : ℕ → ℕ = size_of (grid_cells grid.shape grid.side) grid.shape.planes in
     c.in_ok-run_missing.ensures.kept
-    ∙ ap (λ (xs : List ℕ). put_each K_under plane size xs) rest
-    ∙ ap (λ (d : Kept). put_each d plane size gone) lower_kept
-    ∙ sym (keep_top held need K planes base_cells all_tiers tiers tier wanted plane top.tiers top.plane)
+    ∙ ap (λ (xs : List ℕ). put_each K_under (length c.args.stages.now) size xs) rest
+    ∙ kept_below top held opened g.S.Stage.needed (g.C.Cache.kept c.args.cache.now)
+    (g.C.Cache.kept c.open_wanted.new.cache) K_under P.planes base_cells c.args.wanted.now c.deref.result.now
+    c.open_wanted.ensures.held asked c.in_ok-open_wanted.ensures.kept c.in_ok-make.ensures.kept
