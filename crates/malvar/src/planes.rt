@@ -7,7 +7,7 @@ ghost use Rattle.malvar.specs.Demosaic.{malvar, demosaiced};
 use crate::Kind;
 use crate::pattern::Pattern;
 use crate::windows::fill_row;
-use plane_view::{Shape, TileMut, View};
+use plane_view::{Shape, View, write_slice};
 
 /// Writes red, green and blue of each pixel, side by side and row by row, of a plane of `rows` by `cols` samples under
 /// the pattern `cfa` (0 red, 1 green, 2 blue; row by row), by the filters of Malvar, He and Cutler. It takes no memory.
@@ -30,13 +30,7 @@ pub fn whole(plane: &[u16], rows: u32, cols: u32, cfa: [u8; 4], out: &mut [u16])
     let all = shape.rect();
     let pattern = Pattern::new(cfa);
     let input = View::new(all, 1, plane);
-    TileMut::new(all, 3, out).write_rows(|r, row| fill_row(
-        &input,
-        shape,
-        Kind::Malvar,
-        pattern,
-        all,
-        r,
-        row,
-    ));
+    write_slice(all, 3, out, |r, row| {
+        fill_row(&input, shape, Kind::Malvar, pattern, all, r, row)
+    });
 }

@@ -1,12 +1,9 @@
-use Rattle.std.proofs.Common.{rules, ◌≡◌, ℕ, ◌+◌, ◌-◌, zero-add, List, ◌∙◌, ap, subst, sym}
+use Rattle.std.proofs.Common.{rules, ◌≡◌, ℕ, ◌+◌, ◌-◌, zero-add, List, ◌∙◌, ap}
 use Rattle.std.proofs.Math.Nat.{sub-zero}
 use Rattle.plane_view.specs.declared.Rect.{Rect}
 use Rattle.plane_view.specs.Lent.{Lent, lent_of, sample_at}
-use Rattle.plane_view.specs.Rows.{IsRowOf, HasSamples}
 use Rattle.plane_view.specs.Rectangles.{whole_rect}
 use Rattle.plane_view.specs.Plane.{sample, samples_of}
-use Rattle.plane_view.specs.Tiles.{loan, tile_rect}
-use Rattle.plane_view.proofs.Loans.{slice_written}
 use Rattle.malvar.specs.Demosaic.{malvar, demosaiced_at}
 use Rattle.malvar.specs.Mosaics.{colours_of}
 use Rattle.malvar.proofs.planes.whole.Goals as goal
@@ -29,21 +26,12 @@ returns c =
     let rows = c.args.rows in
     let cols = c.args.cols in
     let xs = c.args.plane.now in
-    let first = c.new.result in
     let V : Lent = c.new-input.result in
     let f : List ℕ → (ℕ → ℕ → ℕ → ℕ) → ℕ → ℕ → ℕ → ℕ = λ cfa at. demosaiced_at malvar cfa rows cols at in
     let g = f (colours_of c.new-pattern.result) (sample_at V) in
-    let lent : loan first ≡ record { rect = c.rect-all.result; planes = 3; samples = c.args.out.now } =
-    c.new.ensures.lent in
-    let has : HasSamples g (loan c.write_rows.new.self) (tile_rect first) = c.write_rows.ensures.rows g
-    (λ r old new row long_old long_new called.
-    let fact : IsRowOf g c.rect-all.result 3 r new.now = search rules in
-    subst (λ (x : Rect). IsRowOf g x (loan first).planes r new.now) (sym c.new.ensures.rect)
-    (subst (λ (n : ℕ). IsRowOf g c.rect-all.result n r new.now) (sym (ap (λ (L : Lent). L.planes) lent)) fact)) in
     let view : V ≡ lent_whole rows cols xs = c.new-input.ensures
     ∙ ap (λ (x : Rect). record { rect = x; planes = 1; samples = xs }) c.rect-all.ensures in
-    (search rules)
-    ∙ slice_written g first c.write_rows.new.self _ lent c.new.ensures.rect c.write_rows.ensures.loan has
+    c.write_slice.ensures g (λ r old new row long_old long_new called. search rules)
     ∙ ap (λ (x : Rect). (lent_of x 3 g).samples) c.rect-all.ensures
     ∙ whole_samples rows cols 3 g
     ∙ ap (λ (cfa : List ℕ). samples_of rows cols 3 (f cfa (sample_at V))) c.new-pattern.ensures
