@@ -39,7 +39,7 @@ pub record Appended {S T : Type 0} (stands_for : S → List ℕ → Type 0) (fau
   pub counts : faults old ≤ faults new
   pub cause : IfErr result (λ fault. ByCause (cause_of fault) (faults old) (faults new))
 
--- a band was refused for want of memory: what is counted and which keys are held isn't told, and all else is as it was
+-- memory ran out in a band: what is counted and which keys are held isn't told, and all else is as it was
 abbrev pub IsRefused : Session DevStage → Session DevStage → Type 0
 IsRefused old new = new ≡ record old { fetches = new.fetches; fetched = new.fetched; ran = new.ran; keys = new.keys }
 

@@ -43,7 +43,7 @@ no_command lines.Key = codes "no key\n"
 no_command lines.Value = codes "no value\n"
 no_command lines.Region = no_region
 
--- of a change after which the frame has no stages. No definition answers want of memory
+-- of a change after which the frame has no stages. No definition answers "out of memory"
 abbrev pub no_stages : PlanFault → List ℕ
 no_stages plans.Matrix = codes "no matrix\n"
 no_stages plans.Levels = codes "no levels\n"

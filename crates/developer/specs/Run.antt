@@ -115,7 +115,7 @@ pub record NoFault (call : Call) : Type 0 where
   pub script : ¬ Rises call.before.script_faults call.after.script_faults
   pub sink : ¬ Rises call.before.sink_faults call.after.sink_faults
 
--- where no count rose, the run ends as it is called for, or for want of memory
+-- where no count rose, the run ends as it is called for, or out of memory
 abbrev pub Completes : Call → Status → Type 0
 Completes call status = NoFault call → IsCalled call status ⊎ ((status ≡ Memory) × IsPrefix call)
 

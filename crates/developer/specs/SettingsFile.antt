@@ -22,7 +22,7 @@ pub data Refused : Type 0 where
   no_matrix : Refused
   no_levels : Refused
 
--- settings under which the frame has stages. No definition answers want of memory
+-- settings under which the frame has stages. No definition answers "out of memory"
 abbrev pub if_planned : Settings → Result (List DevStage) PlanFault → Result Settings Refused
 if_planned settings (Ok stages) = Ok settings
 if_planned settings (Err fault.Matrix) = Err no_matrix
