@@ -5,7 +5,7 @@ use Rattle.plane_view.proofs.Reflections.{reflected_at}
 use Rattle.malvar.specs.inner.Around.{site_at}
 use Rattle.malvar.specs.inner.Rows.{around_by, around_at}
 use Rattle.malvar.specs.declared.filters.Site.{Site}
-use Rattle.malvar.specs.declared.rows.Window.{Window}
+use Rattle.malvar.specs.declared.windows.Window.{Window}
 
 -- where nothing is reflected, the sums stand where the columns do
 pub around_inside : (by : ℕ) (w : Window) (c far_left left at right far_right : ℕ) → far_left + by + w.left ≡ c

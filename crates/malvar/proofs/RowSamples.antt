@@ -11,7 +11,7 @@ use Rattle.malvar.specs.inner.Around.{own_colour, next_colour, sample_by, around
 use Rattle.malvar.specs.inner.Rows.{IsWindowOf, Spans, count_of, around_at, row_sample}
 use Rattle.malvar.specs.inner.AroundLaws.{sample_is, are_near, reaches}
 use Rattle.malvar.specs.declared.filters.Site.{Site}
-use Rattle.malvar.specs.declared.rows.Window.{Window}
+use Rattle.malvar.specs.declared.windows.Window.{Window}
 
 -- a sample of a run of one plane
 slot : (xs : List ℕ) (L : Lent) (row left right x : ℕ) → IsRun xs L row left right → L.planes ≡ 1 → left ≤ x → x < right
@@ -22,11 +22,11 @@ slot xs L row left right x run planes from to =
     (omega arith)
 
 -- the sums of a window are those of the plane
-around_at_is : (by : ℕ) (w : Window) (L : Lent) (rows r c : ℕ) → 4 ≤ w.cols → IsWindowOf by w L rows r → L.planes ≡ 1
+around_at_is : (by : ℕ) (w : Window) (L : Lent) (rows r c : ℕ) → IsWindowOf by w L rows r → L.planes ≡ 1
     → Spans by w c (c + 1) → 1 ≤ by → by ≤ 2 → around_at by w c ≡ around_of by rows w.cols (sample_at L) r c
-around_at_is by w L rows r c size of planes spans some few =
+around_at_is by w L rows r c of planes spans some few =
     let inside : c < w.cols = omega (arith, spans.within) in
-    let col = are_near w.cols c by size inside some few in
+    let col = are_near w.cols c by w.some_cols inside some few in
     let end : ℕ = w.left + count_of w in
     let from : (x : ℕ) → IsWithin w.cols c by x → w.left ≤ x = λ x is. omega (arith, is.low, spans.low) in
     let to : (x : ℕ) → IsWithin w.cols c by x → x < end = λ x is. omega (arith, is.high, is.inside, spans.high) in
@@ -72,17 +72,17 @@ next_of even odd cfa r c is_even is_odd =
     ]
 
 -- a row's sample
-pub row_sample_is : (kind : Kind) (even odd : Site) (w : Window) (cfa : List ℕ) (L : Lent) (rows r c p : ℕ) → 4 ≤ w.cols
-    → r < rows → IsWindowOf (reach_of kind) w L rows r → L.planes ≡ 1 → Spans (reach_of kind) w c (c + 1)
+pub row_sample_is : (kind : Kind) (even odd : Site) (w : Window) (cfa : List ℕ) (L : Lent) (rows r c p : ℕ) → r < rows
+    → IsWindowOf (reach_of kind) w L rows r → L.planes ≡ 1 → Spans (reach_of kind) w c (c + 1)
     → own_colour even ≡ colour_at cfa r 0 → next_colour even ≡ colour_at cfa r 1 → own_colour odd ≡ colour_at cfa r 1
     → next_colour odd ≡ colour_at cfa r 0
     → row_sample kind even odd w c p ≡ demosaiced_at (table_of kind) cfa rows w.cols (sample_at L) r c p
-row_sample_is kind even odd w cfa L rows r c p size in_rows of planes spans own next own' next' =
+row_sample_is kind even odd w cfa L rows r c p in_rows of planes spans own next own' next' =
     let site : Site = site_at even odd c in
     let sums = around_at (reach_of kind) w c in
     let reach = reaches kind in
     ap (λ x. sample_by (table_of kind) x (next_colour site) sums p) (own_of even odd cfa r c own own')
     ∙ ap (λ x. sample_by (table_of kind) (colour_at cfa r c) x sums p) (next_of even odd cfa r c next next')
     ∙ ap (λ x. sample_by (table_of kind) (colour_at cfa r c) (colour_at cfa r (c + 1)) x p)
-    (around_at_is (reach_of kind) w L rows r c size of planes spans reach.0 reach.1)
+    (around_at_is (reach_of kind) w L rows r c of planes spans reach.0 reach.1)
     ∙ sym (sample_is kind cfa rows w.cols (sample_at L) r c p in_rows (omega (arith, spans.within)))

@@ -6,7 +6,7 @@ ghost use Rattle.malvar.specs.Demosaic.{malvar, demosaiced};
 
 use crate::Kind;
 use crate::pattern::Pattern;
-use crate::windows::fill_row;
+use crate::rows::fill_row;
 use plane_view::{Shape, View, write_slice};
 
 /// Writes red, green and blue of each pixel, side by side and row by row, of a plane of `rows` by `cols` samples under

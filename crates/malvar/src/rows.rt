@@ -1,100 +1,21 @@
-//! One row of pixels, from five rows of samples.
+//! One row of pixels, from rows of samples.
 
-ghost use Rattle.std.specs.Prelude.{◌≡◌, ◌+◌, ◌-◌, ◌*◌, ◌%◌, ◌<◌, ◌≤◌, slice_index, length, pos, negsuc, ◌≤ℤ◌};
-ghost use Rattle.plane_view.specs.Reflect.{reflected};
-ghost use Rattle.malvar.specs.Demosaic.{reach_of};
-ghost use Rattle.malvar.specs.inner.Around.{IsAround, even_site, odd_site};
-ghost use Rattle.malvar.specs.inner.Rows.{IsWindow, Spans, count_of, around_by, around_at, with_pixel};
-ghost use Rattle.malvar.specs.inner.Rows.{HasColumns, SameBelow};
+ghost use Rattle.std.specs.Prelude.{◌≡◌, ◌+◌, ◌-◌, ◌*◌, ◌%◌, ◌≤◌, length};
+ghost use Rattle.plane_view.specs.Lent.{HasRow, sample_at};
+ghost use Rattle.plane_view.specs.Rectangles.{LiesIn, grown, whole_rect, width};
+ghost use Rattle.plane_view.specs.Rows.{IsRowOf};
+ghost use Rattle.plane_view.specs.Shapes.{IsShape};
+ghost use Rattle.stage_core.specs.Planes.{IsPart};
+ghost use Rattle.malvar.specs.Demosaic.{demosaiced_at, table_of, reach_of};
+ghost use Rattle.malvar.specs.Mosaics.{IsMosaic, coloured, colours_of};
+ghost use Rattle.malvar.specs.inner.Around.{even_site, odd_site};
+ghost use Rattle.malvar.specs.inner.Rows.{HasColumns, SameBelow, Spans, with_pixel};
 
 use crate::Kind;
-use crate::filters::{Around, RowSites, Site};
-use plane_view::reflect;
-
-/// A row of samples, the rows next to it, and those as far from it as the filters reach. All are equally long.
-#[derive(Clone, Copy)]
-pub(crate) struct Window<'a> {
-    pub(crate) far_up: &'a [u16],
-    pub(crate) up: &'a [u16],
-    pub(crate) here: &'a [u16],
-    pub(crate) down: &'a [u16],
-    pub(crate) far_down: &'a [u16],
-    /// The column of the first samples.
-    pub(crate) left: usize,
-    /// How many columns the plane has.
-    pub(crate) cols: u32,
-}
-
-/// The sum of the samples at two places of a row.
-#[inline(always)]
-fn sum_of(row: &[u16], left: usize, right: usize) -> u32
-    requires left { left < length row.now }
-    requires right { right < length row.now }
-    ensures sum { result ≡ slice_index row.now left + slice_index row.now right }
-    ensures small { result ≤ 131070 }
-{
-    u32::from(row[left]) + u32::from(row[right])
-}
-
-impl Window<'_> {
-    /// The sums at place `c` of each row, with these places for the ones on its left and on its right.
-    #[inline(always)]
-    fn around_by(
-        &self,
-        far_left: usize,
-        left: usize,
-        c: usize,
-        right: usize,
-        far_right: usize,
-    ) -> Around
-        requires rows { IsWindow self.now }
-        requires far_left { far_left < count_of self.now }
-        requires left { left < count_of self.now }
-        requires c { c < count_of self.now }
-        requires right { right < count_of self.now }
-        requires far_right { far_right < count_of self.now }
-        ensures sums { result ≡ around_by self.now far_left left c right far_right }
-        ensures small { IsAround result }
-    {
-        Around {
-            centre: u32::from(self.here[c]),
-            horizontal: sum_of(self.here, left, right),
-            vertical: u32::from(self.up[c]) + u32::from(self.down[c]),
-            diagonal: sum_of(self.up, left, right) + sum_of(self.down, left, right),
-            horizontal_far: sum_of(self.here, far_left, far_right),
-            vertical_far: u32::from(self.far_up[c]) + u32::from(self.far_down[c]),
-        }
-    }
-
-    /// The place of column `i`, which is reflected if it is outside the plane.
-    fn place(&self, i: i64) -> usize
-        requires size { 4 ≤ self.now.cols }
-        requires low { negsuc 1 ≤ℤ i }
-        requires high { i ≤ℤ pos (self.now.cols + 1) }
-        requires has { self.now.left ≤ reflected self.now.cols i }
-        ensures { result ≡ reflected self.now.cols i - self.now.left }
-    {
-        reflect(i, self.cols) as usize - self.left
-    }
-
-    /// The sums at column `c`, columns outside the plane being reflected.
-    fn around_at(&self, kind: Kind, c: usize) -> Around
-        requires rows { IsWindow self.now }
-        requires spans { Spans (reach_of kind) self.now c (c + 1) }
-        ensures sums { result ≡ around_at (reach_of kind) self.now c }
-        ensures small { IsAround result }
-    {
-        let i = c as i64;
-        let reach = i64::from(kind.reach());
-        self.around_by(
-            self.place(i - reach),
-            self.place(i - 1),
-            c - self.left,
-            self.place(i + 1),
-            self.place(i + reach),
-        )
-    }
-}
+use crate::filters::{RowSites, Site};
+use crate::pattern::Pattern;
+use crate::windows::Window;
+use plane_view::{Rect, Shape, View};
 
 /// Writes pixel `k` of a row.
 #[inline(always)]
@@ -127,7 +48,6 @@ fn fill_reflecting(
     to: usize,
     out: &mut [u16],
 )
-    requires window { IsWindow window.now }
     requires spans { Spans (reach_of kind) window.now from to }
     requires first { first ≤ from }
     requires out { (to - first) * 3 ≤ length out.old }
@@ -146,7 +66,6 @@ fn fill_reflecting(
 /// Develops so many pairs of columns from the even column `from` on, whose neighbours all lie in the plane.
 #[inline(always)]
 fn fill_pairs(window: &Window, row: Row, from: usize, pairs: usize, out: &mut [u16])
-    requires window { IsWindow window.now }
     requires spans { Spans (reach_of row.kind) window.now from (from + pairs * 2) }
     requires even { from % 2 ≡ 0 }
     requires low { reach_of row.kind ≤ from }
@@ -174,7 +93,6 @@ fn fill_pairs(window: &Window, row: Row, from: usize, pairs: usize, out: &mut [u
 /// The same, by a loop of its own for each kind of demosaicing.
 #[inline(always)]
 fn fill_kinds(window: &Window, row: Row, from: usize, pairs: usize, out: &mut [u16])
-    requires window { IsWindow window.now }
     requires spans { Spans (reach_of row.kind) window.now from (from + pairs * 2) }
     requires even { from % 2 ≡ 0 }
     requires low { reach_of row.kind ≤ from }
@@ -218,7 +136,6 @@ fn fill_sites(
     pairs: usize,
     out: &mut [u16],
 )
-    requires window { IsWindow window.now }
     requires spans { Spans (reach_of kind) window.now from (from + pairs * 2) }
     requires even { from % 2 ≡ 0 }
     requires low { reach_of kind ≤ from }
@@ -270,15 +187,7 @@ fn fill_sites(
 }
 
 /// Develops the columns from `first` up to `to`.
-pub(crate) fn fill(
-    window: &Window,
-    sites: RowSites,
-    kind: Kind,
-    first: usize,
-    to: usize,
-    out: &mut [u16],
-)
-    requires window { IsWindow window.now }
+fn fill(window: &Window, sites: RowSites, kind: Kind, first: usize, to: usize, out: &mut [u16])
     requires spans { Spans (reach_of kind) window.now first to }
     requires out { length out.old ≡ (to - first) * 3 }
     ensures { HasColumns kind (even_site sites) (odd_site sites) window.now first out.new first to }
@@ -294,4 +203,36 @@ pub(crate) fn fill(
     fill_reflecting(window, sites, kind, first, first, from, out);
     fill_sites(window, sites, kind, first, from, pairs, out);
     fill_reflecting(window, sites, kind, first, from + pairs * 2, to, out);
+}
+
+/// Develops row `r` of a rectangle.
+pub(crate) fn fill_row(
+    input: &View<'_>,
+    whole: Shape,
+    kind: Kind,
+    pattern: Pattern,
+    rect: Rect,
+    r: u32,
+    out: &mut [u16],
+)
+    requires whole { IsShape whole }
+    requires takes { IsMosaic whole }
+    requires planes { input.now.planes ≡ 1 }
+    requires part { IsPart rect (coloured whole) }
+    requires need { LiesIn (grown rect (reach_of kind) (whole_rect whole.rows whole.cols)) input.now.rect }
+    requires row { HasRow rect r }
+    requires out { length out.old ≡ width rect * 3 }
+    ensures { IsRowOf (demosaiced_at (table_of kind) (colours_of pattern) whole.rows whole.cols (sample_at input.now))
+        rect 3 r out.new }
+{
+    let part = rect.grow(kind.reach(), &whole.rect());
+    let window = Window::of_part(input, whole, kind, r, part);
+    fill(
+        &window,
+        pattern.sites(r),
+        kind,
+        rect.left as usize,
+        rect.right as usize,
+        out,
+    );
 }

@@ -8,7 +8,7 @@ ghost use Rattle.malvar.specs.Mosaics.{IsMosaic, coloured};
 
 use crate::Kind;
 use crate::pattern::Pattern;
-use crate::windows::fill_row;
+use crate::rows::fill_row;
 use plane_view::{Rect, Shape, TileMut, View};
 use stage_core::{Stage, Steps};
 use std::sync::ledger::Ledger;

@@ -7,20 +7,11 @@ use Rattle.malvar.specs.Demosaic.{table_of, reach_of}
 use Rattle.malvar.specs.inner.Around.{own_colour, next_colour, sample_by, site_at}
 use Rattle.malvar.specs.declared.filters.Around.{Around}
 use Rattle.malvar.specs.declared.filters.Site.{Site}
-use Rattle.malvar.specs.declared.rows.Window.{Window}
+use Rattle.malvar.specs.declared.windows.Window.{Window}
 
 -- how many samples each row has
 abbrev pub count_of : Window → ℕ
 count_of w = length w.here.now
-
--- five rows of as many samples
-pub record IsWindow (w : Window) : Type 0 where
-  pub far_up : length w.far_up.now ≡ count_of w
-  pub up : length w.up.now ≡ count_of w
-  pub down : length w.down.now ≡ count_of w
-  pub far_down : length w.far_down.now ≡ count_of w
-  pub some_cols : 4 ≤ w.cols
-  pub cols : w.cols ≤ 8192
 
 -- the window has the columns up to so far away from those from one up to another, but for those outside the plane
 pub record Spans (reach : ℕ) (w : Window) (from to : ℕ) : Type 0 where

@@ -3,7 +3,7 @@ use Rattle.std.proofs.lemmas.Int.{ints}
 use Rattle.plane_view.specs.Reflect.{reflected}
 use Rattle.malvar.specs.Demosaic.{reach_of}
 use Rattle.malvar.specs.inner.Rows.{around_by}
-use Rattle.malvar.proofs.rows.Window.around_at.Goals as goal
+use Rattle.malvar.proofs.windows.Window.around_at.Goals as goal
 
 pub returns-clause-sums : goal.returns-clause-sums
 returns-clause-sums c =

@@ -3,7 +3,7 @@ use Rattle.std.proofs.lemmas.Int.{ints}
 use Rattle.plane_view.specs.Lent.{Lent, IsRun}
 use Rattle.plane_view.specs.Reflect.{reflected}
 use Rattle.malvar.specs.Demosaic.{reach_of}
-use Rattle.malvar.proofs.windows.window_of.Goals as goal
+use Rattle.malvar.proofs.windows.Window.of_part.Goals as goal
 
 -- the same run, of a row in another spelling
 of_row : (xs : List ℕ) (L : Lent) (rows left right : ℕ) (x y : ℤ) → IsRun xs L (reflected rows x) left right → x ≡ y

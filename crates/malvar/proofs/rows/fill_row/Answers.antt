@@ -8,7 +8,7 @@ use Rattle.malvar.specs.inner.Rows.{Spans}
 use Rattle.plane_view.specs.declared.Rect.{Rect}
 use Rattle.plane_view.specs.Rectangles.{grown, whole_rect}
 use Rattle.malvar.proofs.RowSamples.{row_sample_is}
-use Rattle.malvar.proofs.windows.fill_row.Goals as goal
+use Rattle.malvar.proofs.rows.fill_row.Goals as goal
 
 pub returns : goal.returns
 returns c =
@@ -17,9 +17,9 @@ returns c =
     let L = c.args.input.now in
     let r = c.args.r in
     let cfa = colours_of c.args.pattern in
-    let w = c.window_of-window.result in
+    let w = c.of_part-window.result in
     let sites = c.sites.result in
-    let cols = c.window_of-window.ensures.cols in
+    let cols = c.of_part-window.ensures.cols in
     let is_part : c.grow-part.result ≡ grown c.args.rect (reach_of kind) (whole_rect whole.rows whole.cols) =
     c.grow-part.ensures.edges ∙ (λ i. grown c.args.rect (c.reach.ensures i) (c.rect.ensures i)) in
     let left = ap (λ (x : Rect). x.left) is_part in
@@ -34,8 +34,8 @@ returns c =
             high = omega arith;
           } in
           c.fill.ensures k p pixel.left pixel.right colour
-          ∙ row_sample_is kind (even_site sites) (odd_site sites) w cfa L whole.rows r k p (omega arith) (omega arith)
-          c.window_of-window.ensures.rows c.requires.planes spans c.sites.ensures.even c.sites.ensures.even_next
+          ∙ row_sample_is kind (even_site sites) (odd_site sites) w cfa L whole.rows r k p (omega arith)
+          c.of_part-window.ensures.rows c.requires.planes spans c.sites.ensures.even c.sites.ensures.even_next
           c.sites.ensures.odd c.sites.ensures.odd_next
           ∙ ap (λ n. demosaiced_at (table_of kind) cfa whole.rows n (sample_at L) r k p) cols;
     }
