@@ -10,7 +10,8 @@ use Rattle.std.proofs.Math.Nat.{mul_assoc, mul_comm, add-mul}
 use Rattle.std.proofs.Math.IntN.{negsuc-*ℤ-pos}
 use Rattle.colour_matrix.specs.declared.matrix_rows.Raised.{Raised}
 use Rattle.colour_matrix.specs.declared.matrix_rows.Row.{Row}
-use Rattle.colour_matrix.specs.Matrices.{IsEntry, IsForwardEntry, entry_at, clipped}
+use Rattle.colour_matrix.specs.Matrices.{IsEntry, IsForwardEntry, entry_at}
+use Rattle.plane_view.specs.Samples.{clipped}
 use Rattle.colour_matrix.specs.inner.MatrixRows.{IsRaised, IsRow, AreRows, AreDigits, HaveDigits, product_of}
 use Rattle.colour_matrix.specs.declared.matrix_rows.Rows.{Rows}
 use Rattle.std.proofs.lemmas.List.Elements.{All-from_recursion}

@@ -1,8 +1,9 @@
 -- Colour matrices (DNG 1.6, chapter 6, "Mapping Camera Color Space to CIE XYZ Space", the forward matrix). Entries in
 -- 65536ths and the rounding are this project's own.
-use Rattle.std.specs.Prelude.{ℕ, ◌+◌, ◌*◌, min, ℤ, pos, negsuc, neg_ℤ, ◌+ℤ◌, ◌*ℤ◌, ◌≤ℤ◌, List, [], ◌∷◌, slice_index_or}
+use Rattle.std.specs.Prelude.{ℕ, ◌+◌, ◌*◌, ℤ, pos, neg_ℤ, ◌+ℤ◌, ◌*ℤ◌, ◌≤ℤ◌, List, [], ◌∷◌, slice_index_or}
 use Rattle.std.specs.Int.{int_div_euclid}
 use Rattle.plane_view.specs.Plane.{Plane, sample, plane_of}
+use Rattle.plane_view.specs.Samples.{clipped}
 
 -- an entry of a matrix, in 65536ths
 abbrev pub IsEntry : ℤ → Type 0
@@ -15,11 +16,6 @@ IsForwardEntry entry = (neg_ℤ (pos 1048576) ≤ℤ entry) × (entry ≤ℤ pos
 -- the entry in row i and column j of a matrix of 3 by 3
 abbrev pub entry_at : List ℤ → ℕ → ℕ → ℤ
 entry_at c i j = slice_index_or c (i * 3 + j) (pos 0)
-
--- a whole number held within 0 and 65535
-abbrev pub clipped : ℤ → ℕ
-clipped (pos n) = min n 65535
-clipped (negsuc n) = 0
 
 -- row i of a matrix times a pixel, in 65536ths
 abbrev pub row_times : List ℤ → ℕ → (red green blue : ℕ) → ℤ

@@ -32,7 +32,9 @@ use Rattle.dev_settings.specs.declared.settings.Settings.{Settings}
 use Rattle.dev_settings.specs.declared.settings.Change.{Change}
 use Rattle.dev_settings.specs.declared.settings.Change.TheVariants as change
 use Rattle.dev_settings.specs.declared.settings.MatrixChoice.TheVariants.{Auto, Camera, Forward1, Forward2, Own}
-use Rattle.dev_settings.specs.Ranges.{IsGain, IsEntry, MatrixInRange, CurveInRange, ChangeInRange, CommandInRange}
+use Rattle.colour_matrix.specs.Balances.{IsGain}
+use Rattle.colour_matrix.specs.Matrices.{IsEntry}
+use Rattle.dev_settings.specs.Ranges.{MatrixInRange, CurveInRange, ChangeInRange, CommandInRange}
 use Rattle.dev_settings.specs.Ranges.{SettingsInRange}
 
 -- what holds of each value that is read holds of a value made of it

@@ -1,5 +1,7 @@
 -- The ranges of settings, which are this project's own.
-use Rattle.std.specs.Prelude.{◌≡◌, ⊤, ℕ, ℤ, pos, neg_ℤ, ◌≤◌, ◌≤ℤ◌, All, IfSome, IsTrue}
+use Rattle.std.specs.Prelude.{◌≡◌, ⊤, ◌≤◌, All, IfSome, IsTrue}
+use Rattle.colour_matrix.specs.Balances.{IsGain}
+use Rattle.colour_matrix.specs.Matrices.{IsEntry}
 use Rattle.tone_table.specs.Knots.{are_knots}
 use Rattle.tone_table.specs.declared.Curve.{Curve}
 use Rattle.tone_table.specs.declared.Curve.TheVariants.{Knots}
@@ -10,14 +12,6 @@ use Rattle.dev_settings.specs.declared.settings.MatrixChoice.{MatrixChoice}
 use Rattle.dev_settings.specs.declared.settings.MatrixChoice.TheVariants.{Own}
 use Rattle.dev_settings.specs.declared.settings.Change.{Change}
 use Rattle.dev_settings.specs.declared.settings.Change.TheVariants.{White, Wb, Exposure, Matrix, Tone}
-
--- a gain in 4096ths
-abbrev pub IsGain : ℕ → Type 0
-IsGain gain = (1 ≤ gain) × (gain ≤ 1048576)
-
--- an entry of a matrix, in 65536ths
-abbrev pub IsEntry : ℤ → Type 0
-IsEntry entry = (neg_ℤ (pos 16777216) ≤ℤ entry) × (entry ≤ℤ pos 16777216)
 
 -- the entries of a matrix of the user's own are in their range
 abbrev pub MatrixInRange : MatrixChoice → Type 0

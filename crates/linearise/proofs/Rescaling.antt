@@ -8,7 +8,8 @@ use Rattle.std.proofs.lemmas.Bool.{cases_lt}
 use Rattle.std.proofs.lemmas.Int.{ints}
 use Rattle.std.proofs.lemmas.Nat.{div-add-mod', div-mul-add, div_below, le-div, mod_below, mul-le, pow-add, shr-shr}
 use Rattle.std.proofs.lemmas.Nat.{shr_split}
-use Rattle.linearise.specs.Linear.{clipped, rescaled}
+use Rattle.linearise.specs.Linear.{rescaled}
+use Rattle.plane_view.specs.Samples.{clipped}
 use Rattle.linearise.specs.inner.Scales.{IsFactor, IsScale, held_of, part_of}
 
 -- a common factor of two sides goes away

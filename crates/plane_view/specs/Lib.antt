@@ -4,5 +4,6 @@ pub mod Plane
 pub mod Rectangles
 pub mod Reflect
 pub mod Rows
+pub mod Samples
 pub mod Shapes
 pub mod Tiles

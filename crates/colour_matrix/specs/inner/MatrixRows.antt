@@ -4,7 +4,8 @@ use Rattle.std.specs.Prelude.{slice_index_or, slice_set}
 use Rattle.colour_matrix.specs.declared.matrix_rows.Raised.{Raised}
 use Rattle.colour_matrix.specs.declared.matrix_rows.Row.{Row}
 use Rattle.colour_matrix.specs.declared.matrix_rows.Rows.{Rows}
-use Rattle.colour_matrix.specs.Matrices.{entry_at, clipped, matrixed_value}
+use Rattle.colour_matrix.specs.Matrices.{entry_at, matrixed_value}
+use Rattle.plane_view.specs.Samples.{clipped}
 use Rattle.std.specs.Int.{int_div_euclid}
 
 -- an entry that was raised by 2^24, in digits
