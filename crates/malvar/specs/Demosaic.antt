@@ -167,13 +167,13 @@ weighted_sum rows cols at r c w =
     +ℤ w.vertical_2 *ℤ (step up_2 here +ℤ step down_2 here)
 
 -- sixteenths as a whole number, rounded down, and held within 0 and 65535
-abbrev pub clipped : ℤ → ℕ
-clipped (pos n) = min (n / 16) 65535
-clipped (negsuc n) = 0
+abbrev pub from_sixteenths : ℤ → ℕ
+from_sixteenths (pos n) = min (n / 16) 65535
+from_sixteenths (negsuc n) = 0
 
 -- s sixteenths rounded to the nearest number, a half up, and held within 0 and 65535
 abbrev pub rounded : ℤ → ℕ
-rounded s = clipped (s +ℤ pos 8)
+rounded s = from_sixteenths (s +ℤ pos 8)
 
 -- the sample of a wanted colour at row r, column c
 abbrev pub demosaiced_at : Table → List ℕ → (rows cols : ℕ) → (ℕ → ℕ → ℕ → ℕ) → ℕ → ℕ → ℕ → ℕ
