@@ -8,7 +8,7 @@ use Rattle.std.proofs.lemmas.Int.{ints}
 use Rattle.std.proofs.lemmas.List.FromFn.{fill_by_all}
 use Rattle.stage_chain.specs.Chains.{TakeInTurn}
 use Rattle.opcode_list.specs.Trims.{IsPartOf, left_after}
-use Rattle.dng_tags.specs.Facts.{IsFrame}
+use Rattle.dng_tags.specs.Facts.{IsPlannable}
 use Rattle.dng_tags.specs.Listed.{after_list1, after_list2, area_shape, coloured_shape}
 use Rattle.dng_tags.specs.declared.record.Frame.{Frame}
 use Rattle.tone_table.specs.declared.Curve.{Curve}
@@ -24,7 +24,6 @@ use Rattle.dev_stages.specs.declared.stage.DevStage.TheVariants as stage
 use Rattle.dev_stages.specs.Changes.{linear_or}
 use Rattle.dev_stages.specs.Listed.{listed}
 use Rattle.dev_stages.specs.Members.{shaped_of, takes_of}
-use Rattle.dev_stages.specs.Plannable.{IsPlannable}
 use Rattle.dev_stages.specs.inner.Faults.{linear_fault}
 use Rattle.dev_stages.specs.Plans.{balance_stage, curve_table, demosaic_stage, in_order, levels_under, linear_stage}
 use Rattle.dev_stages.specs.Plans.{planned, span_under, stages_with, tone_stage}
@@ -153,27 +152,3 @@ pub in_parts : (frame : Frame) (linear demosaic balance matrix tone : DevStage)
     ≡ in_order frame linear demosaic balance matrix tone
 unfolding in_order
 in_parts frame linear demosaic balance matrix tone = simp append_assoc refl
-
--- a frame that was read can be planned
-pub plannable : (frame : Frame) (bytes : List ℕ) → IsFrame frame bytes → IsPlannable frame
-plannable frame bytes is = record {
-  shape = is.shape;
-  pattern = is.pattern;
-  list1 = is.list1;
-  few1 = is.few1;
-  fit1 = is.fit1;
-  active_some = is.active_some;
-  active = is.active;
-  levels = is.levels.ranged;
-  list2 = is.list2;
-  few2 = is.few2;
-  fit2 = is.fit2;
-  rows = is.rows;
-  cols = is.cols;
-  list3 = is.list3;
-  few3 = is.few3;
-  fit3 = is.fit3;
-  crop_some = is.crop_some;
-  crop = is.crop;
-  colour = is.colour;
-}

@@ -3,5 +3,4 @@ pub mod inner
 pub mod Laws
 pub mod Listed
 pub mod Members
-pub mod Plannable
 pub mod Plans

@@ -6,7 +6,7 @@ ghost use Rattle.stage_chain.specs.Chains.{TakeInTurn};
 ghost use Rattle.dev_stages.specs.Changes.{Refuses, Replaces, linear_or, matrix_or, number_of, touched};
 ghost use Rattle.dev_stages.specs.Listed.{listed};
 ghost use Rattle.dev_stages.specs.Members.{shaped_of, takes_of};
-ghost use Rattle.dev_stages.specs.Plannable.{IsPlannable};
+ghost use Rattle.dng_tags.specs.Facts.{IsPlannable};
 ghost use Rattle.dev_stages.specs.Plans.{balance_stage, chosen_matrix, demosaic_stage, planned, tone_stage};
 
 use crate::listed::{moved, push_listed, stage_count};

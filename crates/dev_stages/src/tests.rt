@@ -2,7 +2,7 @@
 ghost use Rattle.std.specs.Prelude.{◌<◌, IfOk};
 ghost use Rattle.dev_settings.specs.Ranges.{ChangeInRange, SettingsInRange};
 ghost use Rattle.opcode_list.specs.Params.{CanRun};
-ghost use Rattle.dev_stages.specs.Plannable.{IsPlannable};
+ghost use Rattle.dng_tags.specs.Facts.{IsPlannable};
 
 use crate::listed::moved;
 use crate::{DevStage, PlanFault, plan, stage_of};
@@ -73,7 +73,6 @@ fn undefined(alloc: Global, tag: u16, bytes: &[u8]) -> Result<Field, AllocError>
 }
 
 /// The bright-red frame with a first forward matrix, and opcode lists.
-#[tactic(auto, using(crate::proofs::PlanLemmas::plannable))]
 fn frame_of(alloc: Global, lists: Lists<'_>) -> Result<Frame, AllocError>
     ensures { IfOk result IsPlannable }
 {

@@ -21,7 +21,7 @@ use Rattle.dev_stages.specs.declared.stage.DevStage.TheVariants as stage
 use Rattle.colour_matrix.specs.Matrices.{camera_matrix}
 use Rattle.dev_settings.specs.declared.settings.Settings.{Settings}
 use Rattle.dev_stages.specs.declared.fault.PlanFault.TheVariants as fault
-use Rattle.dev_stages.proofs.PlanLemmas.{plannable, takes_planned}
+use Rattle.dev_stages.proofs.PlanLemmas.{takes_planned}
 use Rattle.region_session.specs.Stacks.{last_shape}
 use Rattle.developer.specs.Develop.{IsInForce, develop, stages_under}
 use Rattle.developer.specs.inner.Developed.{Develops}
@@ -34,7 +34,7 @@ unfolding segments_plane
 shape_of_raw bytes frame is = λ i. record {
   rows = frame.shape.rows;
   cols = frame.shape.cols;
-  planes = sym is.shape.planes i;
+  planes = sym is.plannable.shape.planes i;
 }
 
 -- stages before others
@@ -129,7 +129,7 @@ pub plan_takes : (bytes : List ℕ) (frame : Frame) (settings : Settings) (stage
     → TakeInTurn takes_of shaped_of stages (shape_of (raw bytes frame))
 plan_takes bytes frame settings stages is are =
     subst (TakeInTurn takes_of shaped_of stages) (sym (shape_of_raw bytes frame is))
-    (takes_planned frame settings stages (plannable frame bytes is) are)
+    (takes_planned frame settings stages is.plannable are)
 
 -- stages whose last plane has three planes make a developed one
 pub makes_developed : (P : Plane) (stages : List DevStage) (last : Shape) → IsShape last
@@ -190,8 +190,8 @@ few_stages bytes frame settings stages is are =
         few_listed frame.list1,
         few_listed frame.list2,
         few_listed frame.list3,
-        is.few1,
-        is.few2,
-        is.few3,
+        is.plannable.few1,
+        is.plannable.few2,
+        is.plannable.few3,
       ),
     )

@@ -8,7 +8,7 @@ use Rattle.colour_matrix.specs.Matrices.{camera_matrix}
 use Rattle.dev_settings.specs.Ranges.{SettingsInRange}
 use Rattle.dev_settings.specs.declared.settings.Settings.{Settings}
 use Rattle.dev_stages.specs.Members.{apply_of}
-use Rattle.dev_stages.specs.Plannable.{IsPlannable}
+use Rattle.dng_tags.specs.Facts.{IsPlannable}
 use Rattle.dev_stages.specs.Plans.{chosen_matrix, planned, stages_with}
 use Rattle.dev_stages.specs.declared.stage.DevStage.{DevStage}
 use Rattle.developer.specs.Sessions.{InForce}

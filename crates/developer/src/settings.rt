@@ -2,9 +2,8 @@
 
 ghost use Rattle.std.specs.Prelude.{◌≡◌, ◌+◌, ◌≤◌, ℕ, List, ◌++◌, [], IfOk, Ok, length, option_map};
 ghost use Rattle.std.specs.List.{list_all};
-ghost use Rattle.dng_tags.specs.Facts.{IsFrame};
+ghost use Rattle.dng_tags.specs.Facts.{IsFrame, IsPlannable};
 ghost use Rattle.dev_settings.specs.Settings.{standard_settings};
-ghost use Rattle.dev_stages.specs.Plannable.{IsPlannable};
 ghost use Rattle.developer.specs.SettingsFile.{file_settings, is_letter, is_plain, refusal_text, settings_line};
 ghost use Rattle.developer.specs.SettingsFile.{shown_name};
 ghost use Rattle.developer.specs.inner.Planning.{IsPlanned, Plans, PlansUnder, ReadsSettings, seen};

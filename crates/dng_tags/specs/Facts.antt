@@ -84,20 +84,16 @@ pub record AreColours (colour : Colour) : Type 0 where
   pub forward1 : IsMatrix colour.forward1
   pub forward2 : IsMatrix colour.forward2
 
--- a frame that was read from a file
-pub record IsFrame (frame : Frame) (bytes : List ℕ) : Type 0 where
+-- a frame whose lists, areas, levels, pattern and colours are in their ranges, so that its stages can be planned
+pub record IsPlannable (frame : Frame) : Type 0 where
   pub shape : IsRawShape frame.shape
-  pub depth : (8 ≤ frame.depth) × (frame.depth ≤ 16)
-  pub order : frame.order ≡ order_of bytes
-  pub parts : AreParts frame.shape frame.segments
-  pub inside : LieWithin (length bytes) frame.segments
   pub pattern : Contains patterns frame.cfa
   pub list1 : All (CanRunIn 1) frame.list1
   pub few1 : length frame.list1 ≤ 16
   pub fit1 : first_misfit 0 frame.list1 frame.shape ≡ None
   pub active_some : IsNonEmpty frame.active
   pub active : LiesIn frame.active (whole_rect (after_list1 frame).rows (after_list1 frame).cols)
-  pub levels : AreLevels frame.levels (height frame.active) (width frame.active)
+  pub levels : AreRanged frame.levels (height frame.active) (width frame.active)
   pub list2 : All (CanRunIn 2) frame.list2
   pub few2 : length frame.list2 ≤ 16
   pub fit2 : first_misfit 0 frame.list2 (area_shape frame.active) ≡ None
@@ -109,3 +105,12 @@ pub record IsFrame (frame : Frame) (bytes : List ℕ) : Type 0 where
   pub crop_some : IsNonEmpty frame.crop
   pub crop : LiesIn frame.crop (whole_rect (after_list3 frame).rows (after_list3 frame).cols)
   pub colour : AreColours frame.colour
+
+-- a frame that was read from a file: its segments lie in the file, and its white above every black
+pub record IsFrame (frame : Frame) (bytes : List ℕ) : Type 0 where
+  pub plannable : IsPlannable frame
+  pub depth : (8 ≤ frame.depth) × (frame.depth ≤ 16)
+  pub order : frame.order ≡ order_of bytes
+  pub parts : AreParts frame.shape frame.segments
+  pub inside : LieWithin (length bytes) frame.segments
+  pub levels : AreLevels frame.levels (height frame.active) (width frame.active)

@@ -177,7 +177,7 @@ are_opened bytes frame coding items buffer held is coded same room decodable las
     let of_frame : (k : ℕ) (segment : Segment) → slice_get items k ≡ Some segment
     → slice_get frame.segments k ≡ Some segment =
     λ k segment at. subst (λ (xs : List Segment). slice_get xs k ≡ Some segment) same at in
-    let shape = is.shape in
+    let shape = is.plannable.shape in
     record {
       depth = subst IsCoding (sym coded) (coding_is frame is.depth);
       limits = record {

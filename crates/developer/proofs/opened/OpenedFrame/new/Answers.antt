@@ -1,9 +1,8 @@
-use Rattle.std.proofs.Common.{sym, ap, subst}
+use Rattle.std.proofs.Common.{rules, sym, subst}
 use Rattle.plane_view.specs.Plane.{Plane}
 use Rattle.stage_core.specs.Stages.{shape_of}
 use Rattle.stage_chain.specs.Chains.{TakeInTurn}
 use Rattle.dev_stages.specs.Members.{shaped_of, takes_of}
-use Rattle.dev_stages.proofs.PlanLemmas.{plannable}
 use Rattle.developer.specs.Opening.{begun_over}
 use Rattle.developer.specs.Sessions.{in_force}
 use Rattle.developer.specs.inner.Shown.{option_view}
@@ -30,3 +29,8 @@ unreachable-requires c =
     in
     never_refused stages (shape_of c.args.segments.plane) c.in-Err-Shape.field-0-0 takes
     (c.in-Err-Shape.ensures.refused c.in-Err-Shape.field-0-0 c.in-Err-Shape.field-0-is)
+
+pub returns-in-Ok : goal.returns-in-Ok
+returns-in-Ok c =
+    rw (c.in-Ok.ensures.opened, c.from.ensures, planned_stages c.args.frame c.args.planned.settings
+    c.args.planned.stages.items c.requires.planned.stages) (search rules)
