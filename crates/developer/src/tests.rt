@@ -110,13 +110,27 @@ struct Outside {
     tally: Tally,
 }
 
+/// A file `f.dng`.
+fn files_of(alloc: Global, frame: &[u8]) -> Result<MemFiles, AllocError> {
+    let mut files = MemFiles::new(alloc)?;
+    files.add("f.dng", frame)?;
+    Ok(files)
+}
+
+/// The program's name, and these words after it.
+fn words_of(alloc: Global, words: &[&str]) -> Result<Vec<String>, AllocError> {
+    let mut all = vec![in alloc; String::from_str(alloc, "rawdev")?]?;
+    for word in words {
+        all.push(String::from_str(alloc, word)?)?;
+    }
+    Ok(all)
+}
+
 impl Outside {
     /// A file `f.dng`, a script, and a sink with room.
     fn new(alloc: Global, frame: &[u8], script: &[u8]) -> Result<Outside, AllocError> {
-        let mut files = MemFiles::new(alloc)?;
-        files.add("f.dng", frame)?;
         Ok(Outside {
-            files,
+            files: files_of(alloc, frame)?,
             script: MemSource::new(alloc, script)?,
             out: MemSink::new(alloc, ROOM)?,
             tally: Tally::new(),
@@ -125,13 +139,10 @@ impl Outside {
 
     /// Runs with these words after the program's name.
     fn run(&mut self, alloc: Global, words: &[&str]) -> Result<Status, AllocError> {
-        let mut all = vec![in alloc; String::from_str(alloc, "rawdev")?]?;
-        for word in words {
-            all.push(String::from_str(alloc, word)?)?;
-        }
+        let words = words_of(alloc, words)?;
         Ok(run(
             alloc,
-            &all,
+            &words,
             &mut self.files,
             &mut self.script,
             &mut self.out,
@@ -150,6 +161,23 @@ fn ran(alloc: Global, file: &[u8], script: &[u8]) -> Result<(Status, Vec<u8>), A
     let mut outside = Outside::new(alloc, file, script)?;
     let status = outside.run(alloc, &["f.dng"])?;
     Ok((status, outside.out.bytes().to_vec(alloc)?))
+}
+
+/// Whether a script over a file `f.dng` has these replies.
+fn replies(alloc: Global, file: &[u8], script: &[u8], want: &[u8]) -> Result<bool, AllocError> {
+    let mut outside = Outside::new(alloc, file, script)?;
+    let status = outside.run(alloc, &["f.dng"])?;
+    Ok(status == Status::Done && outside.out.bytes() == want)
+}
+
+/// Whether a script over a frame has these replies.
+fn frame_replies(
+    alloc: Global,
+    frame: TestFrame,
+    script: &[u8],
+    want: &[u8],
+) -> Result<bool, AllocError> {
+    replies(alloc, &frame.bytes(alloc, Order::Little)?, script, want)
 }
 
 /// Whether a file is refused with a line, and the script isn't read.
@@ -191,33 +219,45 @@ fn statuses_have_their_numbers(rt: HostRuntime) {
 #[test]
 fn regions(rt: HostRuntime) -> Result<(), Fail> {
     let alloc = rt.alloc();
-    let (status, bytes) = ran(alloc, &flat_file(alloc)?, b"region 0 0 1 1 ppm\n")?;
-    assert_eq!(rt; status, Status::Done);
-    assert_eq!(rt; bytes.as_slice(), one_pixel());
-    let bright = bright_red(alloc)?.bytes(alloc, Order::Little)?;
-    let (status, bytes) = ran(alloc, &bright, b"region 4 4 3 1 ppm\nregion 5 5 1 1 ppm\n")?;
-    assert_eq!(rt; status, Status::Done);
-    assert_eq!(rt; bytes.as_slice(), bright_pixels());
+    assert!(rt; frame_replies(alloc, flat(alloc)?, b"region 0 0 1 1 ppm\n", one_pixel())?);
+    let regions = b"region 4 4 3 1 ppm\nregion 5 5 1 1 ppm\n";
+    assert!(rt; frame_replies(alloc, bright_red(alloc)?, regions, bright_pixels())?);
     Ok(())
+}
+
+/// Whether a row of the bright-red frame as a tag image file begins with its line and ends with its samples.
+fn bright_row_as_tiff(alloc: Global) -> Result<bool, AllocError> {
+    let bright = bright_red(alloc)?.bytes(alloc, Order::Little)?;
+    let (_, written) = ran(alloc, &bright, b"region 4 4 3 1 tiff\n")?;
+    Ok(written.starts_with(b"image 198\n") && written.ends_with(bright_samples()))
 }
 
 #[test]
 fn tag_image_files(rt: HostRuntime) -> Result<(), Fail> {
     let alloc = rt.alloc();
-    let (status, written) = ran(alloc, &flat_file(alloc)?, b"region 0 0 1 1 tiff\n")?;
-    assert!(rt; status == Status::Done && written.as_slice() == one_pixel_as_tiff());
-    let bright = bright_red(alloc)?.bytes(alloc, Order::Little)?;
-    let (_, written) = ran(alloc, &bright, b"region 4 4 3 1 tiff\n")?;
-    assert!(rt; written.starts_with(b"image 198\n") && written.ends_with(bright_samples()));
+    assert!(rt;
+        frame_replies(
+            alloc,
+            flat(alloc)?,
+            b"region 0 0 1 1 tiff\n",
+            one_pixel_as_tiff()
+        )?
+    );
+    assert!(rt; bright_row_as_tiff(alloc)?);
     Ok(())
+}
+
+/// Whether the flat frame without its last byte is refused.
+fn cut_is_refused(alloc: Global) -> Result<bool, AllocError> {
+    let mut cut = flat_file(alloc)?;
+    cut.pop();
+    is_refused(alloc, &cut, b"refused Outside 0\n")
 }
 
 #[test]
 fn frames_are_refused(rt: HostRuntime) -> Result<(), Fail> {
     let alloc = rt.alloc();
-    let mut cut = flat_file(alloc)?;
-    cut.pop();
-    assert!(rt; is_refused(alloc, &cut, b"refused Outside 0\n")?);
+    assert!(rt; cut_is_refused(alloc)?);
     assert!(rt; is_refused(alloc, b"", b"refused NotTiff\n")?);
     for (at, new, line) in [
         (
@@ -251,26 +291,28 @@ fn refusals() -> [Refusal; 7] {
     ]
 }
 
+/// Whether the flat frame with another entry is refused with a line.
+fn entry_is_refused(alloc: Global, field: Field, line: &[u8]) -> Result<bool, AllocError> {
+    let frame = flat(alloc)?.with(field)?;
+    is_refused(alloc, &frame.bytes(alloc, Order::Little)?, line)
+}
+
 #[test]
 fn entries_are_refused_by_name(rt: HostRuntime) -> Result<(), Fail> {
     let alloc = rt.alloc();
     for (tag, numbers, line) in refusals() {
-        let frame = flat(alloc)?.with(Field::shorts(alloc, tag, numbers)?)?;
-        assert!(rt;
-            is_refused(alloc, &frame.bytes(alloc, Order::Little)?, line)?,
-            "{tag}"
-        );
+        let field = Field::shorts(alloc, tag, numbers)?;
+        assert!(rt; entry_is_refused(alloc, field, line)?, "{tag}");
     }
-    let short = flat(alloc)?.with(Field::longs(alloc, 279, &[31])?)?;
-    let file = short.bytes(alloc, Order::Little)?;
-    assert!(rt; is_refused(alloc, &file, b"refused Segment 0 Short 32 31\n")?);
+    let short = Field::longs(alloc, 279, &[31])?;
+    assert!(rt; entry_is_refused(alloc, short, b"refused Segment 0 Short 32 31\n")?);
     Ok(())
 }
 
 /// Whether the region of one pixel of a flat frame has the flat frame's reply.
 fn is_flat(alloc: Global, frame: TestFrame, order: Order) -> Result<bool, AllocError> {
-    let (status, bytes) = ran(alloc, &frame.bytes(alloc, order)?, b"region 0 0 1 1 ppm\n")?;
-    Ok(status == Status::Done && bytes.as_slice() == one_pixel())
+    let file = frame.bytes(alloc, order)?;
+    replies(alloc, &file, b"region 0 0 1 1 ppm\n", one_pixel())
 }
 
 #[test]
@@ -323,14 +365,13 @@ fn lower_half_twice() -> &'static [u8] {
 #[test]
 fn segments_make_up_the_frame(rt: HostRuntime) -> Result<(), Fail> {
     let alloc = rt.alloc();
-    let script = b"region 4 4 3 1 ppm\nregion 5 5 1 1 ppm\n".as_slice();
-    let strips = in_strips(alloc, 3, &[0, 48, 96], &[48, 48, 32])?.bytes(alloc, Order::Little)?;
-    assert_eq!(rt; ran(alloc, &strips, script)?.1.as_slice(), bright_pixels());
-    let tile = in_a_tile(alloc)?.bytes(alloc, Order::Little)?;
-    assert_eq!(rt; ran(alloc, &tile, script)?.1.as_slice(), bright_pixels());
-    let twice = in_strips(alloc, 4, &[64, 64], &[64, 64])?.bytes(alloc, Order::Little)?;
-    let bytes = ran(alloc, &twice, b"region 4 0 1 1 ppm\nregion 4 4 1 1 ppm\n")?.1;
-    assert_eq!(rt; bytes.as_slice(), lower_half_twice());
+    let script = b"region 4 4 3 1 ppm\nregion 5 5 1 1 ppm\n";
+    let strips = in_strips(alloc, 3, &[0, 48, 96], &[48, 48, 32])?;
+    assert!(rt; frame_replies(alloc, strips, script, bright_pixels())?);
+    assert!(rt; frame_replies(alloc, in_a_tile(alloc)?, script, bright_pixels())?);
+    let twice = in_strips(alloc, 4, &[64, 64], &[64, 64])?;
+    let script = b"region 4 0 1 1 ppm\nregion 4 4 1 1 ppm\n";
+    assert!(rt; frame_replies(alloc, twice, script, lower_half_twice())?);
     Ok(())
 }
 
@@ -356,9 +397,17 @@ fn with_stream(alloc: Global, stream: &[u8]) -> Result<TestFrame, AllocError> {
         .with_strip(alloc, stream)
 }
 
+/// The flat frame with a strip that is a stream by a predictor.
+fn predicted(alloc: Global, predictor: u8) -> Result<TestFrame, AllocError>
+    requires some { 1 ≤ predictor }
+    requires seven { predictor ≤ 7 }
+{
+    let stream = flat_stream(alloc, 16, 4, predictor)?;
+    with_stream(alloc, &stream)
+}
+
 /// A stream of 4 lines, 2 samples a line and 2 components, which spells 4660 sixteen times: the code word 0 is for
-/// category
-/// 0, and 10 for category 15.
+/// category 0, and 10 for category 15.
 fn stream_of_two_components() -> &'static [u8] {
     b"\xFF\xD8\xFF\xC3\x00\x0E\x10\x00\x04\x00\x02\x02\x01\x11\x00\x02\x11\x00\
       \xFF\xC4\x00\x15\x00\x01\x01\x00\x00\x00\x00\x00\x00\x00\x00\x00\x00\x00\x00\x00\x00\x00\x0F\
@@ -382,21 +431,25 @@ fn in_two_streams(alloc: Global, damaged: bool) -> Result<TestFrame, AllocError>
         .with(Field::longs(alloc, 325, &[length, length])?)
 }
 
+/// Whether a frame whose second tile is no stream is refused.
+fn damaged_is_refused(alloc: Global) -> Result<bool, AllocError> {
+    let damaged = in_two_streams(alloc, true)?.bytes(alloc, Order::Little)?;
+    is_refused(alloc, &damaged, b"refused Segment 1 Jpeg NoStart\n")
+}
+
 #[test]
 fn lossless_frames(rt: HostRuntime) -> Result<(), Fail> {
     let alloc = rt.alloc();
     for predictor in 1..8 {
-        let stream = flat_stream(alloc, 16, 4, predictor)?;
         assert!(rt;
-            is_flat(alloc, with_stream(alloc, &stream)?, Order::Little)?,
+            is_flat(alloc, predicted(alloc, predictor)?, Order::Little)?,
             "{predictor}"
         );
     }
     let frame = with_stream(alloc, stream_of_two_components())?;
     assert!(rt; is_flat(alloc, frame, Order::Big)?);
     assert!(rt; is_flat(alloc, in_two_streams(alloc, false)?, Order::Little)?);
-    let damaged = in_two_streams(alloc, true)?.bytes(alloc, Order::Little)?;
-    assert!(rt; is_refused(alloc, &damaged, b"refused Segment 1 Jpeg NoStart\n")?);
+    assert!(rt; damaged_is_refused(alloc)?);
     Ok(())
 }
 
@@ -451,26 +504,37 @@ fn bright_row() -> &'static [u8] {
     b"image 31\nP6\n3 1\n65535\n\x06\x40\x03\x20\x04\xB0\x03\x20\x00\x00\x00\x00\x00\x00\x00\x00\x00\x00"
 }
 
+/// The bright-red frame with two entries more.
+fn bright_with(alloc: Global, field: Field, other: Field) -> Result<TestFrame, AllocError> {
+    bright_red(alloc)?.with(field)?.with(other)
+}
+
 #[test]
 fn areas_are_those_of_the_frame(rt: HostRuntime) -> Result<(), Fail> {
     let alloc = rt.alloc();
-    let active = bright_red(alloc)?
-        .with(Field::shorts(alloc, 50829, &[1, 0, 8, 8])?)?
-        .with(Field::bytes(alloc, 33422, &[1, 2, 0, 1])?)?;
-    let file = active.bytes(alloc, Order::Little)?;
-    assert_eq!(rt;
-        ran(alloc, &file, b"region 4 3 3 1 ppm\n")?.1.as_slice(),
-        bright_row()
-    );
-    let cropped = bright_red(alloc)?
-        .with(Field::shorts(alloc, 50719, &[3, 2])?)?
-        .with(Field::shorts(alloc, 50720, &[4, 4])?)?;
-    let file = cropped.bytes(alloc, Order::Little)?;
-    assert_eq!(rt;
-        ran(alloc, &file, b"region 1 2 3 1 ppm\n")?.1.as_slice(),
-        bright_row()
-    );
+    let area = Field::shorts(alloc, 50829, &[1, 0, 8, 8])?;
+    let active = bright_with(alloc, area, Field::bytes(alloc, 33422, &[1, 2, 0, 1])?)?;
+    assert!(rt; frame_replies(alloc, active, b"region 4 3 3 1 ppm\n", bright_row())?);
+    let origin = Field::shorts(alloc, 50719, &[3, 2])?;
+    let cropped = bright_with(alloc, origin, Field::shorts(alloc, 50720, &[4, 4])?)?;
+    assert!(rt; frame_replies(alloc, cropped, b"region 1 2 3 1 ppm\n", bright_row())?);
     Ok(())
+}
+
+/// How a run over a file with these words and an empty script ends, where it writes this.
+fn ends_so(
+    alloc: Global,
+    file: &[u8],
+    words: &[&str],
+    want: &[u8],
+) -> Result<Option<Status>, AllocError> {
+    let mut outside = Outside::new(alloc, file, b"")?;
+    let status = outside.run(alloc, words)?;
+    Ok(if outside.out.bytes() == want {
+        Some(status)
+    } else {
+        None
+    })
 }
 
 #[test]
@@ -478,9 +542,11 @@ fn words_are_accepted(rt: HostRuntime) -> Result<(), Fail> {
     let alloc = rt.alloc();
     let file = flat_file(alloc)?;
     for words in accepted_words() {
-        let mut outside = Outside::new(alloc, &file, b"")?;
-        assert_eq!(rt; outside.run(alloc, words)?, Status::Done);
-        assert!(rt; outside.out.bytes().is_empty());
+        assert_eq!(rt;
+            ends_so(alloc, &file, words, b"")?,
+            Some(Status::Done),
+            "{words:?}"
+        );
     }
     Ok(())
 }
@@ -489,50 +555,96 @@ fn words_are_accepted(rt: HostRuntime) -> Result<(), Fail> {
 fn words_are_refused(rt: HostRuntime) -> Result<(), Fail> {
     let alloc = rt.alloc();
     for words in refused_words() {
-        let mut outside = Outside::new(alloc, b"", b"")?;
-        assert_eq!(rt; outside.run(alloc, words)?, Status::Usage);
-        assert_eq!(rt; outside.out.bytes(), USAGE_LINE);
+        assert_eq!(rt;
+            ends_so(alloc, b"", words, USAGE_LINE)?,
+            Some(Status::Usage),
+            "{words:?}"
+        );
     }
     Ok(())
+}
+
+/// What fails.
+#[derive(Clone, Copy, PartialEq)]
+enum Part {
+    Files,
+    Script,
+    Sink,
+}
+
+impl Outside {
+    /// Lets a call of a part fail.
+    fn fail_at(&mut self, part: Part, call: u64) -> Result<(), AllocError> {
+        match part {
+            Part::Files => self.files.fail_at(call),
+            Part::Script => self.script.fail_at(call),
+            Part::Sink => self.out.fail_at(call),
+        }
+    }
+}
+
+/// How the run of a script over a file ends where a call of a part fails, and what it wrote.
+fn failed_at(
+    alloc: Global,
+    file: &[u8],
+    script: &[u8],
+    part: Part,
+    call: u64,
+) -> Result<(Status, Vec<u8>), AllocError> {
+    let mut outside = Outside::new(alloc, file, script)?;
+    outside.fail_at(part, call)?;
+    let status = outside.run(alloc, &["f.dng"])?;
+    Ok((status, outside.out.bytes().to_vec(alloc)?))
+}
+
+/// Whether the run of a script over the flat frame ends so where a call of a part fails, and writes this.
+fn fails(
+    alloc: Global,
+    script: &[u8],
+    part: Part,
+    call: u64,
+    want: (Status, &[u8]),
+) -> Result<bool, AllocError> {
+    let (status, written) = failed_at(alloc, &flat_file(alloc)?, script, part, call)?;
+    Ok(status == want.0 && written.as_slice() == want.1)
 }
 
 #[test]
 fn reads_fail(rt: HostRuntime) -> Result<(), Fail> {
     let alloc = rt.alloc();
-    let mut absent = Outside::new(alloc, b"", b"region 0 0 1 1 ppm\n")?;
-    assert_eq!(rt; absent.run(alloc, &["g.dng"])?, Status::ReadFault);
-    assert!(rt; absent.out.bytes().is_empty());
-
-    let mut unread = Outside::new(alloc, &flat_file(alloc)?, b"region 0 0 1 1 ppm\n")?;
-    unread.script.fail_at(1)?;
-    assert_eq!(rt; unread.run(alloc, &["f.dng"])?, Status::ReadFault);
-    assert!(rt; unread.out.bytes().is_empty());
+    assert_eq!(rt;
+        ends_so(alloc, b"", &["g.dng"], b"")?,
+        Some(Status::ReadFault)
+    );
+    let script = b"region 0 0 1 1 ppm\n";
+    assert!(rt; fails(alloc, script, Part::Script, 1, (Status::ReadFault, b""))?);
     Ok(())
 }
 
-#[test]
-fn writes_fail(rt: HostRuntime) -> Result<(), Fail> {
-    let alloc = rt.alloc();
-    let file = flat_file(alloc)?;
-    let mut unwritten = Outside::new(alloc, &file, b"region 0 0 1 1 ppm\n")?;
-    unwritten.out.fail_at(1)?;
-    assert_eq!(rt; unwritten.run(alloc, &["f.dng"])?, Status::WriteFault);
-    assert!(rt; unwritten.out.bytes().is_empty());
-
-    let mut full = Outside::new(alloc, &file, b"region 0 0 1 1 ppm\n")?;
+/// Whether a sink of nine bytes takes a prefix of the reply.
+fn full_sink_fails(alloc: Global) -> Result<bool, AllocError> {
+    let mut full = Outside::new(alloc, &flat_file(alloc)?, b"region 0 0 1 1 ppm\n")?;
     full.out = MemSink::new(alloc, 9)?;
-    assert_eq!(rt; full.run(alloc, &["f.dng"])?, Status::WriteFault);
-    assert!(rt; full.out.bytes().len() <= 9 && one_pixel().starts_with(full.out.bytes()));
-    Ok(())
+    let status = full.run(alloc, &["f.dng"])?;
+    let written = full.out.bytes();
+    Ok(status == Status::WriteFault && written.len() <= 9 && one_pixel().starts_with(written))
 }
 
 /// A region of one pixel is one write: a sink whose second write fails takes the whole reply.
 #[test]
-fn a_small_region_is_one_write(rt: HostRuntime) -> Result<(), Fail> {
+fn writes_fail(rt: HostRuntime) -> Result<(), Fail> {
     let alloc = rt.alloc();
-    let mut outside = Outside::new(alloc, &flat_file(alloc)?, b"region 0 0 1 1 ppm\nstat\n")?;
-    outside.out.fail_at(2)?;
-    assert_eq!(rt; outside.run(alloc, &["f.dng"])?, Status::WriteFault);
-    assert_eq!(rt; outside.out.bytes(), one_pixel());
+    let script = b"region 0 0 1 1 ppm\nstat\n";
+    assert!(rt; fails(alloc, script, Part::Sink, 1, (Status::WriteFault, b""))?);
+    assert!(rt;
+        fails(
+            alloc,
+            script,
+            Part::Sink,
+            2,
+            (Status::WriteFault, one_pixel())
+        )?
+    );
+    assert!(rt; full_sink_fails(alloc)?);
     Ok(())
 }

@@ -1,6 +1,6 @@
 //! Tests of sessions over made frames: how many cells are fetched, run and kept.
 
-ghost use Rattle.std.specs.Prelude.{◌≡◌, ◌%◌, ◌<◌, ◌≤◌, ◌^◌, length, IfSome};
+ghost use Rattle.std.specs.Prelude.{◌≡◌, ◌%◌, ◌<◌, ◌≤◌, ◌^◌, length, IfSome, IfOk};
 ghost use Rattle.dng_tags.specs.Facts.{IsFrame};
 ghost use Rattle.dev_settings.specs.Settings.{standard_settings};
 ghost use Rattle.developer.specs.Develop.{IsInForce, StagesStay};
@@ -14,11 +14,40 @@ use frame_segments::Segments;
 use plane_view::Rect;
 use region_session::Session;
 use stage_core::{Base, Steps};
-use std::alloc::Global;
+use std::alloc::{AllocError, Global};
 use std::marker::Brand;
 use std::sync::ledger::{Blank, Ledger};
 use std::test::Fail;
 use tone_table::Curve;
+
+/// A made frame.
+#[derive(Clone, Copy)]
+pub(super) enum Scene {
+    /// 16 by 16 samples of 16 bits, with number 5.
+    OneCell,
+    /// 48 by 40 packed samples, with number 9.
+    NineCells,
+}
+
+impl Scene {
+    pub(super) fn file(self, alloc: Global) -> Result<Vec<u8>, AllocError>
+        ensures short { IfOk result (λ file. length file.items ≤ 2 ^ 28) }
+    {
+        match self {
+            Scene::OneCell => make_frame(alloc, 5, 16, 16, Make::Plain16),
+            Scene::NineCells => make_frame(alloc, 9, 48, 40, Make::Packed12),
+        }
+    }
+}
+
+/// The side of the cells of a session, and its budget.
+#[derive(Clone, Copy)]
+pub(super) struct Limits {
+    pub(super) cell: u32,
+    pub(super) budget: u32,
+    ghost side: { (16 ≤ cell) × (cell ≤ 512) × (cell % 16 ≡ 0) },
+    ghost room: { budget ≤ 2 ^ 30 },
+}
 
 /// The numbers of cells fetched and run, and of samples kept.
 pub(super) type Numbers = (u64, u64, u64);
@@ -86,14 +115,9 @@ pub(super) fn open<'a>(
     alloc: Global,
     bytes: &'a [u8],
     frame: &Frame,
-    cell: u32,
-    budget: u64,
+    limits: Limits,
 ) -> Option<Session<Segments<'a>, DevStage>>
     requires frame { IsFrame frame.now bytes.now }
-    requires least { 16 ≤ cell }
-    requires most { cell ≤ 512 }
-    requires multiple { cell % 16 ≡ 0 }
-    requires budget { budget ≤ 2 ^ 30 }
     ensures in_force { IfSome result (λ session. IsInForce (in_force frame.now standard_settings session)) }
     ensures seven { IfSome result (λ session. length session.stages ≡ 7) }
 {
@@ -106,7 +130,14 @@ pub(super) fn open<'a>(
     if stages.len() != 7 {
         return None;
     }
-    Session::open(alloc, segments, stages, cell, budget).ok()
+    Session::open(
+        alloc,
+        segments,
+        stages,
+        limits.cell,
+        u64::from(limits.budget),
+    )
+    .ok()
 }
 
 /// Puts the root curve in the place of a session's last stage.
@@ -148,17 +179,13 @@ fn with_root<B: Base>(
 }
 
 /// Makes the whole plane, then again with the root curve, then again with the same curve.
-fn in_turn(alloc: Global, file: &[u8], cell: u32, budget: u64) -> Option<Turns>
+fn in_turn(alloc: Global, file: &[u8], limits: Limits) -> Option<Turns>
     requires short { length file.now ≤ 2 ^ 28 }
-    requires least { 16 ≤ cell }
-    requires most { cell ≤ 512 }
-    requires multiple { cell % 16 ≡ 0 }
-    requires budget { budget ≤ 2 ^ 30 }
 {
     let Ok(frame) = read_frame(alloc, file) else {
         return None;
     };
-    let mut session = open(alloc, file, &frame, cell, budget)?;
+    let mut session = open(alloc, file, &frame, limits)?;
     let image = whole::<Segments<'_>, Brand>(alloc, &mut session, Blank::new(1))?;
     let first = numbers(&session);
     let second = with_root(alloc, &frame, &mut session)?;
@@ -167,64 +194,94 @@ fn in_turn(alloc: Global, file: &[u8], cell: u32, budget: u64) -> Option<Turns>
     Some(Turns { numbers, image })
 }
 
-/// The frame of 16 by 16 samples of 16 bits with number 5, with cells of a side of 128.
-fn of_one_cell(alloc: Global, budget: u64) -> Option<Turns>
-    requires budget { budget ≤ 2 ^ 30 }
-{
-    let file = make_frame(alloc, 5, 16, 16, Make::Plain16).ok()?;
-    in_turn(alloc, &file, 128, budget)
+/// The numbers of cells fetched and run and of samples kept, after each of the three times, under some limits.
+type Turn = (Limits, [Numbers; 3]);
+
+/// Whether the numbers are those of a turn, and the samples that were made first are these.
+fn comes_out(alloc: Global, scene: Scene, turn: &Turn, image: &[u16]) -> Option<bool> {
+    let file = scene.file(alloc).ok()?;
+    let turns = in_turn(alloc, &file, turn.0)?;
+    Some(turns.numbers.as_slice() == turn.1.as_slice() && turns.image.as_slice() == image)
 }
 
-/// The frame of 48 by 40 packed samples with number 9.
-fn of_nine_cells(alloc: Global, cell: u32, budget: u64) -> Option<Turns>
-    requires least { 16 ≤ cell }
-    requires most { cell ≤ 512 }
-    requires multiple { cell % 16 ≡ 0 }
-    requires budget { budget ≤ 2 ^ 30 }
-{
-    let file = make_frame(alloc, 9, 48, 40, Make::Packed12).ok()?;
-    in_turn(alloc, &file, cell, budget)
+/// The samples of the whole plane, made at once.
+fn image_of(alloc: Global, scene: Scene) -> Option<Vec<u16>> {
+    let limits = Limits {
+        cell: 512,
+        budget: 0,
+    };
+    let file = scene.file(alloc).ok()?;
+    Some(in_turn(alloc, &file, limits)?.image)
 }
 
-/// Whether there are these numbers.
-fn are(turns: &Option<Turns>, numbers: &[Numbers]) -> bool {
-    match turns {
-        Some(turns) => turns.numbers.as_slice() == numbers,
-        None => false,
+/// How many samples the whole plane has, where each turn comes out.
+fn all_come_out(alloc: Global, scene: Scene, turns: &[Turn]) -> Option<usize> {
+    let image = image_of(alloc, scene)?;
+    for turn in turns {
+        if !comes_out(alloc, scene, turn, &image)? {
+            return None;
+        }
     }
+    Some(image.len())
 }
 
-/// Whether the same samples were made, and as many as these.
-fn alike(turns: &Option<Turns>, others: &Option<Turns>, count: usize) -> bool {
-    match (turns, others) {
-        (Some(turns), Some(others)) => turns.image.as_slice() == others.image.as_slice()
-            && turns.image.len() == count,
-        _ => false,
-    }
+/// A whole plane in one cell of the frame's, kept or not.
+fn one_cell_turns() -> [Turn; 2] {
+    [
+        (
+            Limits {
+                cell: 128,
+                budget: 1 << 28,
+            },
+            [(1, 7, 4608), (1, 8, 5376), (1, 8, 5376)],
+        ),
+        (
+            Limits {
+                cell: 128,
+                budget: 255,
+            },
+            [(1, 7, 0), (2, 14, 0), (3, 21, 0)],
+        ),
+    ]
+}
+
+/// Cells of 16 and of 512, kept or not.
+fn nine_cells_turns() -> [Turn; 3] {
+    [
+        (
+            Limits {
+                cell: 16,
+                budget: 0,
+            },
+            [(3, 87, 0), (6, 174, 0), (9, 261, 0)],
+        ),
+        (
+            Limits {
+                cell: 16,
+                budget: 1 << 28,
+            },
+            [(1, 63, 34_560), (1, 72, 40_320), (1, 72, 40_320)],
+        ),
+        (
+            Limits {
+                cell: 512,
+                budget: 1 << 28,
+            },
+            [(1, 7, 34_560), (1, 8, 40_320), (1, 8, 40_320)],
+        ),
+    ]
 }
 
 #[test]
-fn one_cell_a_plane(rt: HostRuntime) -> Result<(), Fail> {
+fn numbers_of_cells(rt: HostRuntime) -> Result<(), Fail> {
     let alloc = rt.alloc();
-    let kept = of_one_cell(alloc, 1 << 28);
-    assert!(rt; are(&kept, &[(1, 7, 4608), (1, 8, 5376), (1, 8, 5376)]));
-    let few = of_one_cell(alloc, 255);
-    assert!(rt; are(&few, &[(1, 7, 0), (2, 14, 0), (3, 21, 0)]));
-    assert!(rt; alike(&kept, &few, 768));
-    Ok(())
-}
-
-/// Cells of 16 and of 512, kept or not, make the same samples.
-#[test]
-fn nine_cells_a_plane(rt: HostRuntime) -> Result<(), Fail> {
-    let alloc = rt.alloc();
-    let small = of_nine_cells(alloc, 16, 0);
-    assert!(rt; are(&small, &[(3, 87, 0), (6, 174, 0), (9, 261, 0)]));
-    let kept = of_nine_cells(alloc, 16, 1 << 28);
-    assert!(rt; are(&kept, &[(1, 63, 34_560), (1, 72, 40_320), (1, 72, 40_320)]));
-    assert!(rt; alike(&kept, &small, 5760));
-    let large = of_nine_cells(alloc, 512, 1 << 28);
-    assert!(rt; are(&large, &[(1, 7, 34_560), (1, 8, 40_320), (1, 8, 40_320)]));
-    assert!(rt; alike(&large, &small, 5760));
+    assert_eq!(rt;
+        all_come_out(alloc, Scene::OneCell, &one_cell_turns()),
+        Some(768)
+    );
+    assert_eq!(rt;
+        all_come_out(alloc, Scene::NineCells, &nine_cells_turns()),
+        Some(5760)
+    );
     Ok(())
 }

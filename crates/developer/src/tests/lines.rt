@@ -1,6 +1,6 @@
 //! Tests of the lines of a script.
 
-use super::{Outside, flat_file, identity, one_pixel, ran};
+use super::{Outside, flat_file, frame_replies, identity, one_pixel, ran, replies};
 use crate::Status;
 use std::alloc::{AllocError, Global};
 use std::test::Fail;
@@ -19,7 +19,7 @@ fn accepted_lines() -> [&'static [u8]; 5] {
 }
 
 /// Lines over the flat frame, and their replies.
-fn replies() -> [(&'static [u8], &'static [u8]); 24] {
+fn lines_and_replies() -> [(&'static [u8], &'static [u8]); 24] {
     [
         (b"region 0 0 1 1 ppm\r\r\n", b"no region\n"),
         (b"region 00000000003 3 1 1 ppm\n", b"no region\n"),
@@ -52,15 +52,11 @@ fn replies() -> [(&'static [u8], &'static [u8]); 24] {
 fn lines(rt: HostRuntime) -> Result<(), Fail> {
     let alloc = rt.alloc();
     let file = flat_file(alloc)?;
-    for script in accepted_lines() {
-        let (status, bytes) = ran(alloc, &file, script)?;
-        assert_eq!(rt; status, Status::Done);
-        assert_eq!(rt; bytes.as_slice(), one_pixel(), "{script:?}");
+    for line in accepted_lines() {
+        assert!(rt; replies(alloc, &file, line, one_pixel())?, "{line:?}");
     }
-    for (script, reply) in replies() {
-        let (status, bytes) = ran(alloc, &file, script)?;
-        assert_eq!(rt; status, Status::Done);
-        assert_eq!(rt; bytes.as_slice(), reply, "{script:?}");
+    for (line, reply) in lines_and_replies() {
+        assert!(rt; replies(alloc, &file, line, reply)?, "{line:?}");
     }
     Ok(())
 }
@@ -72,12 +68,9 @@ fn refused_lines_in_one_script(rt: HostRuntime) -> Result<(), Fail> {
     let script =
         b"set black 65535\nset white 0\nset matrix forward2\nset hue 1\nstat 1\nregion 0 0 1 0 ppm\n\
         region 0 0 5 1 ppm\nstat\n";
-    let (status, bytes) = ran(alloc, &flat_file(alloc)?, script)?;
-    assert_eq!(rt; status, Status::Done);
-    assert_eq!(rt;
-        bytes.as_slice(),
-        b"no levels\nno value\nno matrix\nno key\nno word\nno region\nno region\nstat 0 0 0 268435456\n".as_slice()
-    );
+    let want =
+        b"no levels\nno value\nno matrix\nno key\nno word\nno region\nno region\nstat 0 0 0 268435456\n";
+    assert!(rt; replies(alloc, &flat_file(alloc)?, script, want)?);
     Ok(())
 }
 
@@ -87,12 +80,9 @@ fn long_lines(rt: HostRuntime) -> Result<(), Fail> {
     let file = flat_file(alloc)?;
     let mut script = b"region 0 0 1 1 ppm".to_vec(alloc)?;
     script.resize(4096, b' ')?;
-    assert_eq!(rt; ran(alloc, &file, &script)?.1.as_slice(), one_pixel());
+    assert!(rt; replies(alloc, &file, &script, one_pixel())?);
     script.push(b' ')?;
-    assert_eq!(rt;
-        ran(alloc, &file, &script)?.1.as_slice(),
-        b"no line\n".as_slice()
-    );
+    assert!(rt; replies(alloc, &file, &script, b"no line\n")?);
     Ok(())
 }
 
@@ -101,13 +91,10 @@ fn long_scripts(rt: HostRuntime) -> Result<(), Fail> {
     let alloc = rt.alloc();
     let file = flat_file(alloc)?;
     let mut script = vec![in alloc; b'x'; 1 << 24]?;
-    let (status, bytes) = ran(alloc, &file, &script)?;
-    assert_eq!(rt; status, Status::Done);
-    assert_eq!(rt; bytes.as_slice(), b"no line\n".as_slice());
+    assert!(rt; replies(alloc, &file, &script, b"no line\n")?);
     script.push(b'x')?;
-    let (status, bytes) = ran(alloc, &file, &script)?;
-    assert_eq!(rt; status, Status::ScriptTooLong);
-    assert!(rt; bytes.is_empty());
+    let (status, written) = ran(alloc, &file, &script)?;
+    assert!(rt; status == Status::ScriptTooLong && written.is_empty());
     Ok(())
 }
 
@@ -120,14 +107,10 @@ fn two_matrices() -> &'static [u8] {
 #[test]
 fn changes_are_seen(rt: HostRuntime) -> Result<(), Fail> {
     let alloc = rt.alloc();
-    let frame = plain(alloc, 4, 4, &[1000; 16])?.with(Field::signed_rationals(
-        alloc,
-        50964,
-        &identity(),
-    )?)?;
-    let file = frame.bytes(alloc, Order::Little)?;
+    let forward = Field::signed_rationals(alloc, 50964, &identity())?;
+    let frame = plain(alloc, 4, 4, &[1000; 16])?.with(forward)?;
     let script = b"region 0 0 1 1 ppm\nset matrix camera\nregion 0 0 1 1 ppm\n";
-    assert_eq!(rt; ran(alloc, &file, script)?.1.as_slice(), two_matrices());
+    assert!(rt; frame_replies(alloc, frame, script, two_matrices())?);
     Ok(())
 }
 
@@ -183,7 +166,6 @@ fn bands_make_up_a_region(rt: HostRuntime) -> Result<(), Fail> {
     assert_eq!(rt; whole.len(), 11 + 15 + 4800);
     assert!(rt; in_cells(alloc, "16", b"region 0 0 20 40 ppm\n")? == whole);
     let row = in_cells(alloc, "16", b"region 0 16 20 1 ppm\n")?;
-    assert_eq!(rt; row.len(), 10 + 14 + 120);
-    assert!(rt; row[24..] == whole[26 + 16 * 120..26 + 17 * 120]);
+    assert_eq!(rt; row.get(10 + 14..), whole.get(26 + 16 * 120..26 + 17 * 120));
     Ok(())
 }

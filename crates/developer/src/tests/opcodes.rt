@@ -40,16 +40,14 @@ fn with_list(alloc: Global, tag: u16, list: &[u8]) -> Result<TestFrame, AllocErr
 }
 
 /// Whether a script over such a frame has these replies.
-fn replies(
+fn list_replies(
     alloc: Global,
     tag: u16,
     list: &[u8],
     script: &[u8],
     want: &[u8],
 ) -> Result<bool, AllocError> {
-    let file = with_list(alloc, tag, list)?.bytes(alloc, Order::Little)?;
-    let (status, bytes) = ran(alloc, &file, script)?;
-    Ok(status == Status::Done && bytes.as_slice() == want)
+    frame_replies(alloc, with_list(alloc, tag, list)?, script, want)
 }
 
 /// Whether such a frame is refused by a line.
@@ -62,13 +60,13 @@ fn is_refused_by(alloc: Global, tag: u16, list: &[u8], line: &[u8]) -> Result<bo
 fn lists_are_run(rt: HostRuntime) -> Result<(), Fail> {
     let alloc = rt.alloc();
     let trimmed = b"region 4 3 3 1 ppm\n";
-    assert!(rt; replies(alloc, 51009, &trim(1, 0, 8, 8), trimmed, bright_row())?);
+    assert!(rt; list_replies(alloc, 51009, &trim(1, 0, 8, 8), trimmed, bright_row())?);
     let regions = b"region 4 4 3 1 ppm\nregion 5 5 1 1 ppm\n";
-    assert!(rt; replies(alloc, 51022, &warp(1), regions, bright_pixels())?);
+    assert!(rt; list_replies(alloc, 51022, &warp(1), regions, bright_pixels())?);
     let pixel = b"region 4 4 1 1 ppm\n";
     let black = b"image 19\nP6\n1 1\n65535\n\0\0\0\0\0\0";
-    assert!(rt; replies(alloc, 51008, &mend_1600(), pixel, black)?);
-    assert!(rt; replies(alloc, 51009, &all_4660(), pixel, one_pixel())?);
+    assert!(rt; list_replies(alloc, 51008, &mend_1600(), pixel, black)?);
+    assert!(rt; list_replies(alloc, 51009, &all_4660(), pixel, one_pixel())?);
     Ok(())
 }
 
@@ -76,16 +74,9 @@ fn lists_are_run(rt: HostRuntime) -> Result<(), Fail> {
 #[test]
 fn list_1_leaves_the_pattern(rt: HostRuntime) -> Result<(), Fail> {
     let alloc = rt.alloc();
-    let frame = with_list(alloc, 51008, &trim(1, 0, 8, 8))?.with(Field::bytes(
-        alloc,
-        33422,
-        &[1, 2, 0, 1],
-    )?)?;
-    let file = frame.bytes(alloc, Order::Little)?;
-    assert_eq!(rt;
-        ran(alloc, &file, b"region 4 3 3 1 ppm\n")?.1.as_slice(),
-        bright_row()
-    );
+    let pattern = Field::bytes(alloc, 33422, &[1, 2, 0, 1])?;
+    let frame = with_list(alloc, 51008, &trim(1, 0, 8, 8))?.with(pattern)?;
+    assert!(rt; frame_replies(alloc, frame, b"region 4 3 3 1 ppm\n", bright_row())?);
     Ok(())
 }
 

@@ -3,11 +3,11 @@
 ghost use Rattle.std.specs.Prelude.{◌≡◌, ◌≤◌, length};
 
 use super::stat::one_cell;
-use super::{Outside, flat_file, one_pixel};
+use super::{Part, ROOM, failed_at, files_of, flat_file, one_pixel, ran, words_of};
 use crate::{Status, run};
-use raw_io::{Failed, MemFiles, MemSink, Sink, Source};
+use raw_io::{Failed, MemSink, Sink, Source};
 use region_session::Tally;
-use std::alloc::Global;
+use std::alloc::{AllocError, Global};
 use std::cell::Cell;
 use std::test::Fail;
 
@@ -94,118 +94,120 @@ impl Sink for Counted<'_> {
     }
 }
 
-/// What a run over a slow script ended with, wrote, and had written before the first reads.
-#[derive(Drop)]
-struct SlowRun {
-    status: Status,
-    written: Vec<u8>,
-    seen: [u64; 4],
-}
-
-/// Runs over a file `f.dng` and a script of which a read gives so many bytes, or a line.
-fn run_slowly(
+/// Runs over a file `f.dng`.
+fn run_over<C: Source, O: Sink>(
     alloc: Global,
     file: &[u8],
+    script: &mut C,
+    out: &mut O,
+) -> Result<Status, AllocError> {
+    let mut files = files_of(alloc, file)?;
+    let words = words_of(alloc, &["f.dng"])?;
+    Ok(run(alloc, &words, &mut files, script, out, &mut Tally::new()))
+}
+
+/// How the run over a flat frame ends, and how many bytes it had written before the first reads, where it writes this.
+/// A read gives so many bytes of the script, or a line.
+fn run_slowly(
+    alloc: Global,
     script: &[u8],
     size: usize,
     fails: bool,
-) -> Option<SlowRun> {
+    want: &[u8],
+) -> Result<Option<(Status, [u64; 4])>, AllocError> {
     let written = Cell::new(0);
-    let mut files = MemFiles::new(alloc).ok()?;
-    files.add("f.dng", file).ok()?;
     let mut source = Slow::new(script, size, fails, &written);
     let mut out = Counted {
-        sink: MemSink::new(alloc, 1 << 16).ok()?,
+        sink: MemSink::new(alloc, ROOM)?,
         written: &written,
     };
-    let mut tally = Tally::new();
-    let words = [
-        String::from_str(alloc, "rawdev").ok()?,
-        String::from_str(alloc, "f.dng").ok()?,
-    ];
-    let status = run(alloc, &words, &mut files, &mut source, &mut out, &mut tally);
-    Some(SlowRun {
-        status,
-        written: out.sink.bytes().to_vec(alloc).ok()?,
-        seen: source.seen,
+    let status = run_over(alloc, &flat_file(alloc)?, &mut source, &mut out)?;
+    Ok(if out.sink.bytes() == want {
+        Some((status, source.seen))
+    } else {
+        None
     })
 }
 
 /// Appends the line of a region of one pixel with spaces behind it, `length` bytes long before its line feed; the last
 /// of them is a carriage return, where it has one.
-fn push_line(script: &mut Vec<u8>, length: usize, returns: bool) -> Option<()> {
-    let start = script.len();
-    script.extend_from_slice(b"region 0 0 1 1 ppm").ok()?;
-    let end = start.checked_add(length)?;
-    script
-        .resize(if returns { end.checked_sub(1)? } else { end }, b' ')
-        .ok()?;
-    if returns {
-        script.push(b'\r').ok()?;
+fn push_line(script: &mut Vec<u8>, length: usize, returns: bool) -> Result<(), AllocError> {
+    let spaces = length.saturating_sub(if returns { 19 } else { 18 });
+    script.extend_from_slice(b"region 0 0 1 1 ppm")?;
+    for _ in 0..spaces {
+        script.push(b' ')?;
     }
-    script.push(b'\n').ok()
+    script.extend_from_slice(if returns { b"\r\n" } else { b"\n" })
 }
 
-/// Whether lines of 4,096 bytes are answered and longer ones aren't, where a read gives so many bytes.
-fn long_lines_cut(alloc: Global, size: usize) -> Option<bool> {
+/// Lengths of lines, and whether they end with a carriage return too.
+const LONG_LINES: [(usize, bool); 6] = [
+    (4096, false),
+    (4097, false),
+    (4096, true),
+    (4097, true),
+    (1 << 20, true),
+    (18, false),
+];
+
+/// These lines.
+fn long_lines(alloc: Global) -> Result<Vec<u8>, AllocError> {
     let mut script = Vec::new(alloc);
-    let mut want = Vec::new(alloc);
-    for (length, returns) in [
-        (4096, false),
-        (4097, false),
-        (4096, true),
-        (4097, true),
-        (1 << 20, true),
-        (18, false),
-    ] {
+    for (length, returns) in LONG_LINES {
         push_line(&mut script, length, returns)?;
-        let reply: &[u8] = if length > 4096 {
+    }
+    Ok(script)
+}
+
+/// Their replies: lines of at most 4,096 bytes are answered.
+fn long_replies(alloc: Global) -> Result<Vec<u8>, AllocError> {
+    let mut replies = Vec::new(alloc);
+    for (length, _) in LONG_LINES {
+        replies.extend_from_slice(if length > 4096 {
             b"no line\n"
         } else {
             one_pixel()
-        };
-        want.extend_from_slice(reply).ok()?;
+        })?;
     }
-    let file = flat_file(alloc).ok()?;
-    let ended = run_slowly(alloc, &file, &script, size, false)?;
-    Some(ended.status == Status::Done && ended.written.as_slice() == want.as_slice())
+    Ok(replies)
 }
 
 #[test]
 fn lines_are_cut_anywhere(rt: HostRuntime) -> Result<(), Fail> {
+    let alloc = rt.alloc();
+    let script = long_lines(alloc)?;
+    let want = long_replies(alloc)?;
     for size in [0, 1, 4095, 4096, 4097, 65_536] {
-        assert_eq!(rt; long_lines_cut(rt.alloc(), size), Some(true), "{size}");
+        let ended = run_slowly(alloc, &script, size, false, &want)?;
+        assert!(rt; matches!(ended, Some((Status::Done, _))), "{size}");
     }
     Ok(())
+}
+
+/// The replies to four lines, of which only the first three have an end.
+fn four_replies() -> (&'static [u8], &'static [u8]) {
+    (
+        b"image 19\nP6\n1 1\n65535\n\x12\x34\x12\x34\x12\x34no word\nok\n",
+        b"image 19\nP6\n1 1\n65535\n\x12\x34\x12\x34\x12\x34no word\nok\nstat 1 7 288 268435456\n",
+    )
 }
 
 /// Each line's reply is written before the next read, and complete lines are answered before a read fails.
 #[test]
 fn lines_are_answered_before_the_next_read(rt: HostRuntime) -> Result<(), Fail> {
     let alloc = rt.alloc();
-    let file = flat_file(alloc)?;
     let script = b"region 0 0 1 1 ppm\n\nset tone root\nstat";
-    let ended = run_slowly(alloc, &file, script, 0, false);
-    let failed = run_slowly(alloc, &file, script, 0, true);
-    for run in [&ended, &failed] {
-        assert!(rt; matches!(run, Some(run) if run.seen == [0, 28, 36, 39]));
-    }
-    assert!(rt; matches!(&ended, Some(run) if run.status == Status::Done));
-    assert!(rt;
-        matches!(&failed, Some(run) if run.status == Status::ReadFault && run.written.len() == 39)
+    let (complete, all) = four_replies();
+    let seen = [0, 28, 36, 39];
+    assert_eq!(rt;
+        run_slowly(alloc, script, 0, false, all)?,
+        Some((Status::Done, seen))
     );
-    assert!(rt;
-        matches!((&ended, &failed), (Some(all), Some(cut)) if all.written.starts_with(&cut.written))
+    assert_eq!(rt;
+        run_slowly(alloc, script, 0, true, complete)?,
+        Some((Status::ReadFault, seen))
     );
     Ok(())
-}
-
-/// What fails.
-#[derive(Clone, Copy, PartialEq)]
-enum Part {
-    Files,
-    Script,
-    Sink,
 }
 
 /// How the run over the stat lines' script ends where a call of a part fails, and whether it wrote a prefix of the
@@ -216,40 +218,47 @@ fn ends(
     call: u64,
     file: &[u8],
     replies: &[u8],
-) -> Option<(Status, bool)> {
-    let mut outside = Outside::new(alloc, file, one_cell().script).ok()?;
-    match part {
-        Part::Files => outside.files.fail_at(call).ok()?,
-        Part::Script => outside.script.fail_at(call).ok()?,
-        Part::Sink => outside.out.fail_at(call).ok()?,
-    }
-    let status = outside.run(alloc, &["f.dng"]).ok()?;
-    Some((status, replies.starts_with(outside.out.bytes())))
+) -> Result<(Status, bool), AllocError> {
+    let (status, written) = failed_at(alloc, file, one_cell().script, part, call)?;
+    Ok((status, replies.starts_with(&written)))
 }
 
 /// How many calls of a part can fail before the run goes through, where each earlier run ends so with a prefix.
-fn failing(alloc: Global, part: Part, status: Status) -> Option<u64> {
-    let file = one_cell().scene.file(alloc)?;
-    let mut whole = Outside::new(alloc, &file, one_cell().script).ok()?;
-    if whole.run(alloc, &["f.dng"]) != Ok(Status::Done) {
-        return None;
-    }
+fn failing(
+    alloc: Global,
+    part: Part,
+    status: Status,
+    file: &[u8],
+    replies: &[u8],
+) -> Result<Option<u64>, AllocError> {
     for call in 1..100 {
-        match ends(alloc, part, call, &file, whole.out.bytes())? {
-            (Status::Done, true) => return Some(call - 1),
-            (ended, true) if ended == status => {}
-            _ => return None,
+        let (ended, is_prefix) = ends(alloc, part, call, file, replies)?;
+        if !is_prefix {
+            return Ok(None);
+        }
+        if ended == Status::Done {
+            return Ok(Some(call - 1));
+        }
+        if ended != status {
+            return Ok(None);
         }
     }
-    None
+    Ok(None)
 }
 
 /// One read of the file and one that finds its end; two of the script; one write for each of the eight replies.
 #[test]
 fn calls_fail(rt: HostRuntime) -> Result<(), Fail> {
     let alloc = rt.alloc();
-    assert_eq!(rt; failing(alloc, Part::Files, Status::ReadFault), Some(2));
-    assert_eq!(rt; failing(alloc, Part::Script, Status::ReadFault), Some(2));
-    assert_eq!(rt; failing(alloc, Part::Sink, Status::WriteFault), Some(8));
+    let file = one_cell().scene.file(alloc)?;
+    let (status, replies) = ran(alloc, &file, one_cell().script)?;
+    assert_eq!(rt; status, Status::Done);
+    for (part, fault, calls) in [
+        (Part::Files, Status::ReadFault, 2),
+        (Part::Script, Status::ReadFault, 2),
+        (Part::Sink, Status::WriteFault, 8),
+    ] {
+        assert_eq!(rt; failing(alloc, part, fault, &file, &replies)?, Some(calls));
+    }
     Ok(())
 }

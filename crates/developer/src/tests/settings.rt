@@ -1,6 +1,6 @@
 //! Tests of settings files.
 
-use super::{Outside, flat_file};
+use super::{Outside, ends_so, flat_file};
 use crate::Status;
 use std::alloc::{AllocError, Global};
 use std::test::Fail;
@@ -11,6 +11,12 @@ fn ran_under(alloc: Global, settings: &[u8]) -> Result<(Status, Vec<u8>), AllocE
     outside.files.add("s.toml", settings)?;
     let status = outside.run(alloc, &["f.dng", "--settings", "s.toml"])?;
     Ok((status, outside.out.bytes().to_vec(alloc)?))
+}
+
+/// Whether such a run refuses the settings file with a line.
+fn are_refused(alloc: Global, settings: &[u8], line: &[u8]) -> Result<bool, AllocError> {
+    let (status, written) = ran_under(alloc, settings)?;
+    Ok(status == Status::Settings && written.as_slice() == line)
 }
 
 fn refused_files() -> [(&'static [u8], &'static [u8]); 12] {
@@ -37,8 +43,7 @@ fn refused_files() -> [(&'static [u8], &'static [u8]); 12] {
 fn settings_files_are_refused(rt: HostRuntime) -> Result<(), Fail> {
     let alloc = rt.alloc();
     for (file, line) in refused_files() {
-        let (status, written) = ran_under(alloc, file)?;
-        assert!(rt; status == Status::Settings && written.as_slice() == line);
+        assert!(rt; are_refused(alloc, file, line)?, "{line:?}");
     }
     Ok(())
 }
@@ -52,13 +57,19 @@ fn long_key(alloc: Global, n: usize) -> Result<Vec<u8>, AllocError> {
     Ok(file)
 }
 
+/// The line of a refused key of 64 letters.
+fn line_of_64_letters(alloc: Global) -> Result<Vec<u8>, AllocError> {
+    let mut line = b"settings Key ".to_vec(alloc)?;
+    line.resize(13 + 64, b'k')?;
+    line.push(b'\n')?;
+    Ok(line)
+}
+
 #[test]
 fn long_names_are_not_printed(rt: HostRuntime) -> Result<(), Fail> {
     let alloc = rt.alloc();
-    let (_, written) = ran_under(alloc, &long_key(alloc, 64)?)?;
-    assert!(rt; written.starts_with(b"settings Key kkk") && written.len() == 78);
-    let (_, written) = ran_under(alloc, &long_key(alloc, 65)?)?;
-    assert_eq!(rt; written.as_slice(), b"settings Key ?\n".as_slice());
+    assert!(rt; are_refused(alloc, &long_key(alloc, 64)?, &line_of_64_letters(alloc)?)?);
+    assert!(rt; are_refused(alloc, &long_key(alloc, 65)?, b"settings Key ?\n")?);
     Ok(())
 }
 
@@ -68,31 +79,40 @@ fn long_files_are_refused(rt: HostRuntime) -> Result<(), Fail> {
     let mut file = vec![in alloc; b'#'; 65_536]?;
     assert!(rt; ran_under(alloc, &file)?.0 == Status::Done);
     file.push(b'#')?;
-    let (status, written) = ran_under(alloc, &file)?;
-    assert!(rt; status == Status::Settings);
-    assert_eq!(rt; written.as_slice(), b"settings TooLong\n".as_slice());
+    assert!(rt; are_refused(alloc, &file, b"settings TooLong\n")?);
     Ok(())
+}
+
+/// Whether an empty file is refused as a frame, though the settings file is no TOML either.
+fn refused_as_a_frame(alloc: Global) -> Result<bool, AllocError> {
+    let mut outside = Outside::new(alloc, b"", b"")?;
+    outside.files.add("s.toml", b"x =")?;
+    let status = outside.run(alloc, &["f.dng", "--settings", "s.toml"])?;
+    Ok(status == Status::Frame && outside.out.bytes() == b"refused NotTiff\n".as_slice())
 }
 
 #[test]
 fn a_frame_is_refused_before_its_settings(rt: HostRuntime) -> Result<(), Fail> {
     let alloc = rt.alloc();
-    let mut outside = Outside::new(alloc, b"", b"")?;
-    outside.files.add("s.toml", b"x =")?;
-    let status = outside.run(alloc, &["f.dng", "--settings", "s.toml"])?;
-    assert!(rt; status == Status::Frame && outside.out.bytes() == b"refused NotTiff\n".as_slice());
-    let mut outside = Outside::new(alloc, &flat_file(alloc)?, b"")?;
-    let status = outside.run(alloc, &["f.dng", "--settings", "nothing"])?;
-    assert!(rt; status == Status::ReadFault && outside.out.bytes().is_empty());
+    assert!(rt; refused_as_a_frame(alloc)?);
+    let words = &["f.dng", "--settings", "nothing"];
+    assert_eq!(rt;
+        ends_so(alloc, &flat_file(alloc)?, words, b"")?,
+        Some(Status::ReadFault)
+    );
     Ok(())
+}
+
+/// Whether the pixel is this one under a settings file.
+fn develop(alloc: Global, settings: &[u8], pixel: &[u8]) -> Result<bool, AllocError> {
+    let (status, written) = ran_under(alloc, settings)?;
+    Ok(status == Status::Done && written.ends_with(pixel))
 }
 
 #[test]
 fn settings_are_those_of_the_development(rt: HostRuntime) -> Result<(), Fail> {
     let alloc = rt.alloc();
-    let (status, written) = ran_under(alloc, b"exposure = 2048\n")?;
-    assert!(rt; status == Status::Done && written.ends_with(b"\x24\x68\x24\x68\x24\x68"));
-    let (_, written) = ran_under(alloc, b"tone = [0, 65535, 65535, 65535]\n")?;
-    assert!(rt; written.ends_with(b"\xFF\xFF\xFF\xFF\xFF\xFF"));
+    assert!(rt; develop(alloc, b"exposure = 2048\n", b"\x24\x68\x24\x68\x24\x68")?);
+    assert!(rt; develop(alloc, b"tone = [0, 65535, 65535, 65535]\n", &[255; 6])?);
     Ok(())
 }

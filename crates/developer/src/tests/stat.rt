@@ -1,18 +1,17 @@
 //! Tests of scripts with `stat` lines over made frames: what `run` tells, its tally, and that it writes what `answer`
 //! does.
 
-ghost use Rattle.std.specs.Prelude.{◌≡◌, ◌%◌, ◌<◌, ◌≤◌, ◌^◌, length};
+ghost use Rattle.std.specs.Prelude.{◌≡◌, ◌<◌, ◌≤◌, ◌^◌, length};
 ghost use Rattle.dev_settings.specs.Settings.{standard_settings};
 ghost use Rattle.developer.specs.Develop.{IsInForce};
 ghost use Rattle.developer.specs.Sessions.{in_force};
 
-use super::Outside;
-use super::cells::{Numbers, open};
+use super::cells::{Limits, Numbers, Scene, open};
+use super::{Outside, ROOM};
 use crate::{Status, answer};
 use dev_settings::{Settings, number, split_line};
 use dev_stages::DevStage;
 use dng_tags::{Frame, read_frame};
-use frame_make::{Make, make_frame};
 use frame_segments::Segments;
 use raw_io::MemSink;
 use region_session::Session;
@@ -22,31 +21,12 @@ use std::marker::Brand;
 use std::sync::ledger::{Blank, Ledger};
 use std::test::Fail;
 
-/// A made frame.
-#[derive(Clone, Copy)]
-pub(super) enum Scene {
-    /// 16 by 16 samples of 16 bits, with number 5.
-    OneCell,
-    /// 48 by 40 packed samples, with number 9.
-    NineCells,
-}
-
-impl Scene {
-    pub(super) fn file(self, alloc: Global) -> Option<Vec<u8>> {
-        match self {
-            Scene::OneCell => make_frame(alloc, 5, 16, 16, Make::Plain16).ok(),
-            Scene::NineCells => make_frame(alloc, 9, 48, 40, Make::Packed12).ok(),
-        }
-    }
-}
-
 /// A script over a frame with cells of a side under a budget, what is written of it but for images, and the tally.
 #[derive(Clone, Copy)]
 pub(super) struct Row {
     pub(super) scene: Scene,
     words: &'static [&'static str],
-    cell: u32,
-    budget: u32,
+    limits: Limits,
     pub(super) script: &'static [u8],
     text: &'static [u8],
     tally: Numbers,
@@ -56,8 +36,10 @@ pub(super) fn one_cell() -> Row {
     Row {
         scene: Scene::OneCell,
         words: &["f.dng"],
-        cell: 128,
-        budget: 1 << 28,
+        limits: Limits {
+            cell: 128,
+            budget: 1 << 28,
+        },
         script: b"region 0 0 16 16 ppm\nstat\nset tone root\nregion 0 0 16 16 ppm\nstat\n\
                   set tone root\nregion 0 0 16 16 ppm\nstat\n",
         text: b"stat 1 7 4608 268435456\nok\nstat 1 8 5376 268435456\nok\nstat 1 8 5376 268435456\n",
@@ -68,7 +50,10 @@ pub(super) fn one_cell() -> Row {
 fn small_budget() -> Row {
     Row {
         words: &["f.dng", "--budget", "255"],
-        budget: 255,
+        limits: Limits {
+            cell: 128,
+            budget: 255,
+        },
         script: b"region 0 0 16 16 ppm\nstat\nregion 0 0 16 16 ppm\nstat",
         text: b"stat 1 7 0 255\nstat 2 14 0 255\n",
         tally: (2, 14, 0),
@@ -81,8 +66,10 @@ fn nine_cells() -> Row {
     Row {
         scene: Scene::NineCells,
         words: &["f.dng", "--cell", "16"],
-        cell: 16,
-        budget: 1 << 28,
+        limits: Limits {
+            cell: 16,
+            budget: 1 << 28,
+        },
         script: b"region 0 0 48 40 ppm\nstat\n",
         text: b"stat 1 63 34560 268435456\n",
         tally: (1, 63, 34_560),
@@ -92,7 +79,10 @@ fn nine_cells() -> Row {
 fn large_cells() -> Row {
     Row {
         words: &["f.dng", "--cell", "512"],
-        cell: 512,
+        limits: Limits {
+            cell: 512,
+            budget: 1 << 28,
+        },
         text: b"stat 1 7 34560 268435456\n",
         tally: (1, 7, 34_560),
         ..nine_cells()
@@ -102,7 +92,10 @@ fn large_cells() -> Row {
 fn no_budget() -> Row {
     Row {
         words: &["f.dng", "--cell", "16", "--budget", "0"],
-        budget: 0,
+        limits: Limits {
+            cell: 16,
+            budget: 0,
+        },
         text: b"stat 3 87 0 0\n",
         tally: (3, 87, 0),
         ..nine_cells()
@@ -144,12 +137,11 @@ struct Outcome {
     tally: Numbers,
 }
 
-/// Runs a script to its end.
-fn ran(alloc: Global, file: &[u8], words: &[&str], script: &[u8]) -> Option<Outcome> {
-    let mut outside = Outside::new(alloc, file, script).ok()?;
-    match outside.run(alloc, words) {
-        Ok(Status::Done) => {}
-        _ => return None,
+/// Runs a row's script to its end.
+fn ran(alloc: Global, file: &[u8], row: &Row) -> Option<Outcome> {
+    let mut outside = Outside::new(alloc, file, row.script).ok()?;
+    if outside.run(alloc, row.words) != Ok(Status::Done) {
+        return None;
     }
     Some(Outcome {
         written: outside.out.bytes().to_vec(alloc).ok()?,
@@ -189,63 +181,62 @@ fn answer_lines<B: Base, L: Ledger>(
     Some(())
 }
 
-/// What `answer` writes of each line of a script.
-fn answered(alloc: Global, file: &[u8], cell: u32, budget: u32, script: &[u8]) -> Option<Vec<u8>>
+/// Whether `answer` writes this, line by line of a row's script.
+fn answered(alloc: Global, file: &[u8], row: &Row, written: &[u8]) -> Option<bool>
     requires short { length file.now ≤ 2 ^ 28 }
-    requires least { 16 ≤ cell }
-    requires most { cell ≤ 512 }
-    requires multiple { cell % 16 ≡ 0 }
-    requires budget { budget ≤ 2 ^ 30 }
 {
     let Ok(frame) = read_frame(alloc, file) else {
         return None;
     };
-    let mut session = open(alloc, file, &frame, cell, u64::from(budget))?;
-    let mut out = MemSink::new(alloc, 1 << 16).ok()?;
+    let mut session = open(alloc, file, &frame, row.limits)?;
+    let mut out = MemSink::new(alloc, ROOM).ok()?;
     answer_lines::<Segments<'_>, Brand>(
         alloc,
         &frame,
         &mut session,
-        script,
+        row.script,
         &mut out,
         Blank::new(1),
     )?;
-    out.bytes().to_vec(alloc).ok()
+    Some(out.bytes() == written)
 }
 
-/// What a row's script writes, where it and the tally are those of the row, and `answer` writes the same.
-fn comes_out(alloc: Global, row: Row) -> Option<Vec<u8>> {
-    let file = row.scene.file(alloc)?;
-    let ran = ran(alloc, &file, row.words, row.script)?;
-    if row.cell < 16
-        || row.cell > 512
-        || row.cell % 16 != 0
-        || row.budget > 1 << 30
-        || file.len() > 1 << 28
+/// Whether what was written is a row's text, but for images.
+fn has_text(alloc: Global, row: &Row, written: &[u8]) -> Option<bool> {
+    Some(texts(alloc, written)?.as_slice() == row.text)
+}
+
+/// What a row's script writes over a file, where it and the tally are those of the row, and `answer` writes the same.
+fn comes_out(alloc: Global, file: &[u8], row: &Row) -> Option<Vec<u8>>
+    requires short { length file.now ≤ 2 ^ 28 }
+{
+    let outcome = ran(alloc, file, row)?;
+    let written = outcome.written;
+    if outcome.tally == row.tally
+        && has_text(alloc, row, &written)?
+        && answered(alloc, file, row, &written)?
     {
-        return None;
-    }
-    let answered = answered(alloc, &file, row.cell, row.budget, row.script)?;
-    let text = texts(alloc, &ran.written)?;
-    if text.as_slice() == row.text
-        && ran.tally == row.tally
-        && answered.as_slice() == ran.written.as_slice()
-    {
-        Some(ran.written)
+        Some(written)
     } else {
         None
     }
 }
 
+/// What a row's script writes, where it comes out.
+fn written_by(alloc: Global, row: &Row) -> Option<Vec<u8>> {
+    let file = row.scene.file(alloc).ok()?;
+    comes_out(alloc, &file, row)
+}
+
 /// How many bytes a row's script writes, where it comes out.
-fn length_of(alloc: Global, row: Row) -> Option<usize> {
-    Some(comes_out(alloc, row)?.len())
+fn length_of(alloc: Global, row: &Row) -> Option<usize> {
+    Some(written_by(alloc, row)?.len())
 }
 
 /// Whether two rows come out, and write the same image of `count` bytes first.
-fn alike(alloc: Global, one: Row, other: Row, count: usize) -> Option<bool> {
-    let one = comes_out(alloc, one)?;
-    let other = comes_out(alloc, other)?;
+fn alike(alloc: Global, one: &Row, other: &Row, count: usize) -> Option<bool> {
+    let one = written_by(alloc, one)?;
+    let other = written_by(alloc, other)?;
     Some(one.get(..count)? == other.get(..count)?)
 }
 
@@ -254,11 +245,11 @@ fn alike(alloc: Global, one: Row, other: Row, count: usize) -> Option<bool> {
 fn one_cell_a_plane(rt: HostRuntime) -> Result<(), Fail> {
     let alloc = rt.alloc();
     assert_eq!(rt;
-        length_of(alloc, one_cell()),
+        length_of(alloc, &one_cell()),
         Some(3 * (11 + 15 + 1536) + 24 + 3 + 24 + 3 + 24)
     );
     assert_eq!(rt;
-        length_of(alloc, small_budget()),
+        length_of(alloc, &small_budget()),
         Some(2 * (11 + 15 + 1536) + 15 + 16)
     );
     Ok(())
@@ -270,9 +261,12 @@ fn nine_cells_a_plane(rt: HostRuntime) -> Result<(), Fail> {
     let alloc = rt.alloc();
     let image = 12 + 15 + 11_520;
     assert_eq!(rt;
-        alike(alloc, nine_cells(), large_cells(), image),
+        alike(alloc, &nine_cells(), &large_cells(), image),
         Some(true)
     );
-    assert_eq!(rt; alike(alloc, nine_cells(), no_budget(), image), Some(true));
+    assert_eq!(rt;
+        alike(alloc, &nine_cells(), &no_budget(), image),
+        Some(true)
+    );
     Ok(())
 }
