@@ -1,8 +1,8 @@
 #!/usr/bin/env python3
 """Writes bars.dng beside this script: a CinemaDNG frame of 96 by 64 pixels, of a form that rawdev develops today.
 
-Rows 0 to 39 are colour bars, rows 40 to 51 a grey ramp, rows 52 to 63 a slanted edge from dark to bright. The picture is
-mosaiced with the pattern red, green / green, blue, into one strip of 16-bit samples.
+Rows 0 to 39 are colour bars, rows 40 to 51 a grey ramp, rows 52 to 63 a slanted edge from dark to bright. The picture
+is mosaiced with the pattern red, green / green, blue, into one strip of 16-bit samples.
 """
 
 import struct

@@ -1,9 +1,10 @@
 #!/usr/bin/env python3
 """Writes scene.dng beside this script: a CinemaDNG frame of 240 by 160 pixels, of the form that a camera writes.
 
-The picture is a sky over a meadow with a sun, and a card of patches before them: six colours and six greys. Its colours
-are linear light of sRGB's primaries. They are taken to the camera's colours by DNG's forward form the other way round,
-mosaiced with the pattern red, green / green, blue, and packed as 12 bits between a black and a white level, in one strip.
+The picture is a sky over a meadow with a sun, and a card of patches before them: six colours and six greys. Its
+colours are linear light of sRGB's primaries. They are taken to the camera's colours by DNG's forward form the other
+way round, mosaiced with the pattern red, green / green, blue, and packed as 12 bits between a black and a white
+level, in one strip.
 """
 
 import struct
@@ -35,7 +36,10 @@ MEADOW_TOP, MEADOW_LOW = (0.10, 0.20, 0.03), (0.03, 0.07, 0.01)
 SUN = (1.0, 0.86, 0.45)
 CARD = (0.02, 0.02, 0.02)
 PATCHES = [
-    [(0.40, 0.03, 0.03), (0.60, 0.25, 0.02), (0.70, 0.55, 0.03), (0.05, 0.30, 0.06), (0.03, 0.10, 0.40), (0.30, 0.05, 0.25)],
+    [
+        (0.40, 0.03, 0.03), (0.60, 0.25, 0.02), (0.70, 0.55, 0.03),
+        (0.05, 0.30, 0.06), (0.03, 0.10, 0.40), (0.30, 0.05, 0.25),
+    ],
     [(g, g, g) for g in (0.90, 0.59, 0.36, 0.19, 0.09, 0.03)],
 ]
 

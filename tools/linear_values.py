@@ -1,9 +1,9 @@
 #!/usr/bin/env python3
 """Linear values of raw ones (DNG 1.6, chapter 5), straight from the formula: the table of linearise's test.
 
-Levels are in 256ths. The black level of a place is that of the pattern, and what its column and its row add. The white level
-stands `span` above the greatest black level of the area. A sample v, after the linearisation table, over a black level b
-becomes (2 * 65535 * (256 * v - b) + span) / (2 * span), rounded down, held within 0 and 65535.
+Levels are in 256ths. The black level of a place is that of the pattern, and what its column and its row add. The
+white level stands `span` above the greatest black level of the area. A sample v, after the linearisation table, over
+a black level b becomes (2 * 65535 * (256 * v - b) + span) / (2 * span), rounded down, held within 0 and 65535.
 """
 
 ROWS, COLS = 4, 5

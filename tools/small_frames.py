@@ -1,8 +1,8 @@
 #!/usr/bin/env python3
 """Prints the small frames of the tests of frame_segments: 6 rows of 7 samples, of each depth, in strips and in tiles.
 
-The sample at row r, column c is (4099 * (r % period) + 641 * c) % 2 ** depth, and padding is ones. The bits of a row are
-a string of binary digits (TIFF 6.0, sections 8 and 15; DNG 1.6, chapter 4).
+The sample at row r, column c is (4099 * (r % period) + 641 * c) % 2 ** depth, and padding is ones. The bits of a row
+are a string of binary digits (TIFF 6.0, sections 8 and 15; DNG 1.6, chapter 4).
 """
 
 ROWS, COLS = 6, 7
