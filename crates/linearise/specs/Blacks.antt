@@ -12,12 +12,16 @@ abbrev pub black_by : (cols repeat : ℕ) → (across down : List ℤ) → ℕ �
 black_by cols repeat across down r c =
     slice_index_or across (r % repeat * cols + c) (pos 0) +ℤ slice_index_or down r (pos 0)
 
--- levels of an area of this many rows and columns, and their limits
-pub record AreBlacks (rows cols repeat : ℕ) (across down : List ℤ) : Type 0 where
+-- how many rows and columns an area may have
+pub record AreSides (rows cols : ℕ) : Type 0 where
   pub some_rows : 1 ≤ rows
   pub most_rows : rows ≤ 8192
   pub some_cols : 1 ≤ cols
   pub most_cols : cols ≤ 8192
+
+-- levels of an area of this many rows and columns, and their limits
+pub record AreBlacks (rows cols repeat : ℕ) (across down : List ℤ) : Type 0 where
+  pub sides : AreSides rows cols
   pub some_repeat : 1 ≤ repeat
   pub most_repeat : repeat ≤ 8
   pub long_across : length across ≡ repeat * cols

@@ -5,7 +5,7 @@ ghost use Rattle.std.specs.Prelude.{IfOk, IsTrue};
 ghost use Rattle.dng_tags.specs.Black.{across_at, black_at};
 ghost use Rattle.dng_tags.specs.Facts.{AreDeltas, AreRanged, IsBlackPattern};
 ghost use Rattle.tag_rules.specs.Quantities.{AreWithin, IsWithin};
-ghost use Rattle.linearise.specs.Blacks.{AreBlacks, area_of, black_by};
+ghost use Rattle.linearise.specs.Blacks.{AreBlacks, AreSides, area_of, black_by};
 
 use dng_tags::Levels;
 use lists::Items;
@@ -36,10 +36,7 @@ impl Blacks {
         rows: u32,
         cols: u32,
     ) -> Result<Blacks, AllocError>
-        requires some_rows { 1 ≤ rows }
-        requires rows { rows ≤ 8192 }
-        requires some_cols { 1 ≤ cols }
-        requires cols { cols ≤ 8192 }
+        requires sides { AreSides rows cols }
         requires pattern { IsBlackPattern levels.now }
         requires delta_h { AreDeltas levels.now.delta_h cols }
         requires delta_v { AreDeltas levels.now.delta_v rows }

@@ -10,7 +10,7 @@ returns-else-is_held_alike c =
     let b = c.args.other.now in
     let sized : area_of b.rows b.cols (black_in b) ≡ area_of a.rows a.cols (black_in b) =
     λ i. area_of (sym c.requires.rows i) (sym c.requires.cols i) (black_in b) in (
-      λ yes. area_same a.rows a.cols (black_in a) (black_in b) a.valid.some_cols
+      λ yes. area_same a.rows a.cols (black_in a) (black_in b) a.valid.sides.some_cols
           (λ r k in_rows in_cols. c.same_rows.ensures.0 yes r in_rows k in_cols) ∙ sym sized,
       λ same. c.same_rows.ensures.1 (λ r in_rows k in_cols. area_points a.rows a.cols (black_in a) (black_in b) (same
           ∙ sized) r k in_rows in_cols),
