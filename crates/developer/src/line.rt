@@ -58,10 +58,8 @@ pub fn answer<B: Base, O: Sink, L: Ledger>(
     ensures in_force { IsInForce (in_force frame.now settings.new session.new) }
     ensures few { session.new.stamps.changes ≤ session.old.stamps.changes + 1 }
 {
-    match answer_text(alloc, frame, settings, session, line_text(line), out, work) {
-        Ok(_) => Ok(()),
-        Err(stop) => Err(stop.into()),
-    }
+    answer_text(alloc, frame, settings, session, line_text(line), out, work)?;
+    Ok(())
 }
 
 /// Answers a line by its text, and gives the number of bytes of the answer.

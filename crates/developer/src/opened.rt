@@ -99,7 +99,7 @@ impl<'a> OpenedFrame<'a> {
         ensures state { OnOk result (self.new ≡ (answer_of self.old line.now).state) }
         ensures few { self.new.session.stamps.changes ≤ self.old.session.stamps.changes + 1 }
     {
-        match answer(
+        answer(
             alloc,
             &self.frame,
             &mut self.settings,
@@ -107,10 +107,8 @@ impl<'a> OpenedFrame<'a> {
             line,
             out,
             work,
-        ) {
-            Ok(()) => Ok(()),
-            Err(fault) => Err(fault.into()),
-        }
+        )?;
+        Ok(())
     }
 
     /// Ends the session: the tally rises by its numbers, and stays where it did nothing.
