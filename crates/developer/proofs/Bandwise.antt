@@ -12,7 +12,8 @@ use Rattle.stage_deps.proofs.GridCells.{cell_begins}
 use Rattle.region_session.specs.Sessions.{Opened as Session}
 use Rattle.dev_stages.specs.declared.stage.DevStage.{DevStage}
 use Rattle.developer.specs.Answered.{AreMade, IsRefused, MadeUpTo}
-use Rattle.developer.specs.Develop.{IsInForce, StagesStay}
+use Rattle.developer.specs.Develop.{IsInForce}
+use Rattle.developer.specs.inner.Developed.{StagesStay}
 use Rattle.developer.specs.Sessions.{InForce, after_band, after_bands, band_at, bands_of, cells_of_band, cells_of_bands}
 use Rattle.developer.specs.Sessions.{in_force}
 use Rattle.developer.specs.declared.writing.Cause.{Cause}

@@ -31,7 +31,7 @@ use Rattle.developer.specs.inner.Writes.{Writes, fault_by, fault_for}
 use Rattle.developer.specs.declared.writing.Cause.{Cause}
 use Rattle.developer.specs.declared.writing.Cause.TheVariants.{Memory, Write}
 use Rattle.developer.specs.declared.writing.Stop.{Stop}
-use Rattle.developer.specs.Develop.{StagesStay}
+use Rattle.developer.specs.inner.Developed.{StagesStay}
 use Rattle.developer.proofs.Bandwise.{made_stay, none_made, up_to_stays}
 use Rattle.developer.proofs.Outsides.{prefix_taken}
 

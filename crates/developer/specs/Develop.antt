@@ -3,7 +3,6 @@ use Rattle.std.specs.Prelude.{◌≡◌, List, Ok, unwrap_or}
 use Rattle.plane_view.specs.Plane.{Plane}
 use Rattle.dng_tags.specs.declared.record.Frame.{Frame}
 use Rattle.stage_chain.specs.Chains.{whole_of}
-use Rattle.region_session.specs.Sessions.{Opened as Session}
 use Rattle.colour_matrix.specs.Matrices.{camera_matrix}
 use Rattle.dev_settings.specs.Ranges.{SettingsInRange}
 use Rattle.dev_settings.specs.declared.settings.Settings.{Settings}
@@ -22,13 +21,6 @@ stages_under frame settings =
 -- plane, from its raw plane on
 unfoldable pub develop : Plane → Frame → Settings → Plane
 develop raw frame settings = whole_of apply_of (stages_under frame settings) raw
-
--- a session has its base's plane, its stages, its side and its stamps as before
-pub record StagesStay (old new : Session DevStage) : Type 0 where
-  pub plane : new.plane ≡ old.plane
-  pub stages : new.stages ≡ old.stages
-  pub side : new.side ≡ old.side
-  pub stamps : new.stamps ≡ old.stamps
 
 -- frame and settings are in their ranges, and the session has the stages that they give
 pub record IsInForce (now : InForce) : Type 0 where

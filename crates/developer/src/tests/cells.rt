@@ -3,8 +3,9 @@
 ghost use Rattle.std.specs.Prelude.{◌≡◌, ◌%◌, ◌<◌, ◌≤◌, ◌^◌, length, IfSome, IfOk};
 ghost use Rattle.dng_tags.specs.Facts.{IsFrame};
 ghost use Rattle.dev_settings.specs.Settings.{standard_settings};
-ghost use Rattle.developer.specs.Develop.{IsInForce, StagesStay};
+ghost use Rattle.developer.specs.Develop.{IsInForce};
 ghost use Rattle.developer.specs.Sessions.{in_force};
+ghost use Rattle.developer.specs.inner.Developed.{StagesStay};
 
 use dev_settings::{Change, Settings};
 use dev_stages::{DevStage, plan, stage_of};

@@ -1,5 +1,5 @@
 use Rattle.std.proofs.Common.{◌-◌}
-use Rattle.developer.specs.Develop.{StagesStay}
+use Rattle.developer.specs.inner.Developed.{StagesStay}
 use Rattle.developer.proofs.tests.cells.whole.Given as goal
 
 abbrev pub invariant-loop-top : goal.invariant-loop-top
