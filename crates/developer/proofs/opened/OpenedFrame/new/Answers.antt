@@ -32,5 +32,9 @@ unreachable-requires c =
 
 pub returns-in-Ok : goal.returns-in-Ok
 returns-in-Ok c =
-    rw (c.in-Ok.ensures.opened, c.from.ensures, planned_stages c.args.frame c.args.planned.settings
-    c.args.planned.stages.items c.requires.planned.stages) (search rules)
+    rw (
+      c.in-Ok.ensures.opened,
+      c.from.ensures,
+      planned_stages c.args.frame c.args.planned.settings
+          c.args.planned.stages.items c.requires.planned.stages,
+    ) (search rules)
