@@ -6,7 +6,8 @@ It reads the files that git knows, and looks at five things:
 - each name that a `use` takes from a file of specs/ or proofs/ of this repository stands in that file;
 - the old line of each must-fail edit stands exactly once in its file, and the new one differs from it;
 - each path of a crate that a document names is there;
-- no line of code, proofs or tools passes 120 columns, but for attributes, which `rt fmt` joins;
+- no line of code, proofs, tools or prose passes 120 columns, but for attributes, which `rt fmt` joins, for tables and
+  for what a program printed;
 - no file of code or proofs passes 800 lines.
 
 It ends with status 1 where one of them fails, a line for each. It proves nothing.
@@ -86,7 +87,8 @@ def long_parts(path):
     """The lines of a file that are too wide, and whether it has too many of them."""
     lines = path.read_text().splitlines()
     for number, line in enumerate(lines, 1):
-        if len(line) > COLUMNS and not line.lstrip().startswith("#["):
+        kept = ("|", "    ") if path.suffix == ".md" else ()
+        if len(line) > COLUMNS and not line.lstrip().startswith("#[") and not line.startswith(kept):
             yield f"line {number} has {len(line)} columns"
     if len(lines) > LINES and path.suffix != ".md":
         yield f"has {len(lines)} lines"
@@ -101,7 +103,7 @@ def main():
         found += [(path, fault) for fault in lost_edits(path)]
     for path in files(".md"):
         found += [(path, fault) for fault in lost_paths(path, crates)]
-    for path in files(".antt", ".rt", ".py"):
+    for path in files(".antt", ".rt", ".py", ".md"):
         found += [(path, fault) for fault in long_parts(path)]
     for path, fault in found:
         print(f"{path.relative_to(TOP)}: {fault}")
