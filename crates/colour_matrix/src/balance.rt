@@ -1,7 +1,7 @@
 //! White balance and exposure as a stage.
 
 ghost use Rattle.std.specs.Prelude.{◌≡◌, ◌≤◌, ◌*◌, All, IsTrue, ◌↔◌, length};
-ghost use Rattle.plane_view.specs.Lent.{HasRun, sample_at};
+ghost use Rattle.plane_view.specs.Lent.{HasRowPart, sample_at};
 ghost use Rattle.plane_view.specs.Rectangles.{width};
 ghost use Rattle.plane_view.specs.Rows.{IsRowOf};
 ghost use Rattle.colour_matrix.specs.Balances.{Balancing, IsGain, balanced, balanced_at};
@@ -54,13 +54,13 @@ impl Balance {
 
 /// Balances row `r` of a rectangle.
 fn balance_row(input: &View<'_>, factors: &Factors, rect: Rect, r: u32, out: &mut [u16])
-    requires run { HasRun input.now.rect r rect.left rect.right }
+    requires row_part { HasRowPart input.now.rect r rect.left rect.right }
     requires planes { input.now.planes ≡ 3 }
     requires long { length out.old ≡ width rect * 3 }
     ensures { (s : Balancing) → AreFactors s factors.now
         → IsRowOf (balanced_at s (sample_at input.now)) rect 3 r out.new }
 {
-    balance_samples(input.run(r, rect.left, rect.right), factors, out);
+    balance_samples(input.row_part(r, rect.left, rect.right), factors, out);
 }
 
 impl Stage for Balance {

@@ -3,7 +3,7 @@
 ghost use Rattle.std.specs.Prelude.{◌≡◌, ◌*◌, ◌<◌, ◌≤◌, List, ℤ, pos, neg_ℤ, ◌+ℤ◌, ◌*ℤ◌, ◌≤ℤ◌, unsigned_abs, All};
 ghost use Rattle.std.specs.Prelude.{IsTrue, ◌↔◌, length};
 ghost use Rattle.std.specs.Int.{int_div_euclid};
-ghost use Rattle.plane_view.specs.Lent.{HasRun, sample_at};
+ghost use Rattle.plane_view.specs.Lent.{HasRowPart, sample_at};
 ghost use Rattle.plane_view.specs.Rectangles.{width};
 ghost use Rattle.plane_view.specs.Rows.{IsRowOf};
 ghost use Rattle.colour_matrix.specs.Matrices.{IsEntry, IsForwardEntry, matrixed, matrixed_at, forward_matrix};
@@ -128,13 +128,13 @@ impl Matrix {
 
 /// Maps row `r` of a rectangle.
 fn map_row(input: &View<'_>, rows: Rows, rect: Rect, r: u32, out: &mut [u16])
-    requires run { HasRun input.now.rect r rect.left rect.right }
+    requires row_part { HasRowPart input.now.rect r rect.left rect.right }
     requires planes { input.now.planes ≡ 3 }
     requires long { length out.old ≡ width rect * 3 }
     requires digits { HaveDigits rows }
     ensures { (c : List ℤ) → AreRows c rows → IsRowOf (matrixed_at c (sample_at input.now)) rect 3 r out.new }
 {
-    map_pixels(input.run(r, rect.left, rect.right), rows, out);
+    map_pixels(input.row_part(r, rect.left, rect.right), rows, out);
 }
 
 impl Stage for Matrix {

@@ -3,7 +3,7 @@ use Rattle.std.proofs.Common.{◌≡◌, ℕ, ◌+◌, ◌-◌, ◌*◌, ◌≤�
 use Rattle.plane_view.specs.declared.Rect.{Rect}
 use Rattle.plane_view.specs.Plane.{samples_of}
 use Rattle.plane_view.specs.Rectangles.{width}
-use Rattle.plane_view.specs.Lent.{IsRun, Lent, sample_at}
+use Rattle.plane_view.specs.Lent.{IsRowPart, Lent, sample_at}
 use Rattle.plane_view.proofs.Crops.{samples_of_more}
 
 -- the first rows of the rectangle
@@ -16,17 +16,17 @@ unfolding samples_of
 no_samples rows cols planes f none = rw none refl
 
 -- one row more
-pub rows_more : (V : Lent) (rect : Rect) (row : ℕ) (run : List ℕ) → rect.top ≤ row → rect.left ≤ rect.right
-    → IsRun run V row rect.left rect.right
-    → rows_of V rect (row + 1 - rect.top) ≡ rows_of V rect (row - rect.top) ++ run
-rows_more V rect row run below order is =
+pub rows_more : (V : Lent) (rect : Rect) (row : ℕ) (row_part : List ℕ) → rect.top ≤ row → rect.left ≤ rect.right
+    → IsRowPart row_part V row rect.left rect.right
+    → rows_of V rect (row + 1 - rect.top) ≡ rows_of V rect (row - rect.top) ++ row_part
+rows_more V rect row row_part below order is =
     let next : row + 1 - rect.top ≡ row - rect.top + 1 = omega arith in
     ap (rows_of V rect) next
     ∙ samples_of_more (row - rect.top) (width rect) V.planes (λ r c p. sample_at V (rect.top + r) (rect.left + c) p)
-    run is.long
+    row_part is.long
     (λ c p col plane.
     let back : rect.left + c - rect.left ≡ c = omega arith in
     let here : row ≡ rect.top + (row - rect.top) = omega arith in
-    ap (λ n. get_or run (n * V.planes + p) 0) (sym back)
+    ap (λ n. get_or row_part (n * V.planes + p) 0) (sym back)
     ∙ is.samples (rect.left + c) p (omega arith) (omega arith) plane
     ∙ ap (λ r. sample_at V r (rect.left + c) p) here)

@@ -25,7 +25,7 @@ pub(crate) fn samples_of(alloc: Global, rect: Rect, part: &View<'_>) -> Result<V
         return Ok(samples);
     }
     for row in rect.top..rect.bottom {
-        samples.extend_from_slice(part.run(row, rect.left, rect.right))?;
+        samples.extend_from_slice(part.row_part(row, rect.left, rect.right))?;
     }
     Ok(samples)
 }

@@ -94,7 +94,7 @@ impl Parts {
         requires out { length out.old ≡ width rect * 1 }
         ensures { IsRowOf (linear_of (seen self.now) (sample_at input.now)) rect 1 r out.new }
     {
-        let samples = input.run(r, rect.left, rect.right);
+        let samples = input.row_part(r, rect.left, rect.right);
         look_up(self.table.as_slice(), samples, out);
         let across = self.blacks.row(r, rect.left, rect.right);
         make_linear(self.scale, across, self.blacks.down(r), out);

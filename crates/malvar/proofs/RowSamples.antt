@@ -1,8 +1,8 @@
 -- A row's sample, from five rows of a lent part of a plane, is the demosaiced sample.
 use Rattle.std.proofs.Common.{◌≡◌, ℕ, ◌+◌, ◌-◌, ◌*◌, ◌%◌, ◌<◌, ◌≤◌, List, get_or, sym, ◌∙◌, ap, inl, inr, arith}
 use Rattle.std.proofs.lemmas.Bool.{cases_lt}
-use Rattle.plane_view.specs.Lent.{Lent, IsRun, sample_at}
-use Rattle.plane_view.proofs.Runs.{run_point}
+use Rattle.plane_view.specs.Lent.{Lent, IsRowPart, sample_at}
+use Rattle.plane_view.proofs.RowParts.{row_part_point}
 use Rattle.plane_view.proofs.Reflections.{IsWithin}
 use Rattle.malvar.specs.Pattern.{colour_at}
 use Rattle.malvar.specs.declared.Kind.{Kind}
@@ -13,12 +13,14 @@ use Rattle.malvar.specs.inner.AroundLaws.{sample_is, are_near, reaches}
 use Rattle.malvar.specs.declared.filters.Site.{Site}
 use Rattle.malvar.specs.declared.windows.Window.{Window}
 
--- a sample of a run of one plane
-slot : (xs : List ℕ) (L : Lent) (row left right x : ℕ) → IsRun xs L row left right → L.planes ≡ 1 → left ≤ x → x < right
+-- a sample of a row's part, of one plane
+slot : (xs : List ℕ) (L : Lent) (row left right x : ℕ) → IsRowPart xs L row left right → L.planes ≡ 1 → left ≤ x
+    → x < right
     → get_or xs (x - left) 0 ≡ sample_at L row x 0
-slot xs L row left right x run planes from to =
+slot xs L row left right x row_part planes from to =
     let at : x - left ≡ (x - left) * 1 + 0 = omega arith in
-    ap (λ n. get_or xs n 0) at ∙ run_point xs L row left right run x 0 (x - left) 1 (omega arith) (sym planes) to
+    ap (λ n. get_or xs n 0) at ∙ row_part_point xs L row left right row_part x 0 (x - left) 1 (omega arith)
+    (sym planes) to
     (omega arith)
 
 -- the sums of a window are those of the plane
@@ -30,8 +32,8 @@ around_at_is by w L rows r c of planes spans some few =
     let end : ℕ = w.left + count_of w in
     let from : (x : ℕ) → IsWithin w.cols c by x → w.left ≤ x = λ x is. omega (arith, is.low, spans.low) in
     let to : (x : ℕ) → IsWithin w.cols c by x → x < end = λ x is. omega (arith, is.high, is.inside, spans.high) in
-    let at = λ (xs : List ℕ) (row : ℕ) (run : IsRun xs L row w.left end) (x : ℕ) (is : IsWithin w.cols c by x).
-    slot xs L row w.left end x run planes (from x is) (to x is) in
+    let at = λ (xs : List ℕ) (row : ℕ) (row_part : IsRowPart xs L row w.left end) (x : ℕ) (is : IsWithin w.cols c by x).
+    slot xs L row w.left end x row_part planes (from x is) (to x is) in
     let centre = at _ _ of.here c col.same in
     let left = at _ _ of.here _ col.before in
     let right = at _ _ of.here _ col.after in

@@ -1,7 +1,7 @@
 //! Rows of samples round a row, from a lent part of a plane.
 
 ghost use Rattle.std.specs.Prelude.{◌≡◌, ◌+◌, ◌-◌, ◌<◌, ◌≤◌, min, slice_index, length, pos, negsuc, ◌≤ℤ◌};
-ghost use Rattle.plane_view.specs.Lent.{IsRun};
+ghost use Rattle.plane_view.specs.Lent.{IsRowPart};
 ghost use Rattle.plane_view.specs.Rectangles.{LiesIn};
 ghost use Rattle.plane_view.specs.Reflect.{reflected};
 ghost use Rattle.plane_view.specs.Shapes.{IsShape};
@@ -42,9 +42,9 @@ fn row_of<'a>(input: &'a View<'_>, rows: u32, i: i64, part: Rect) -> &'a [u16]
     requires left { input.now.rect.left ≤ part.left }
     requires order { part.left ≤ part.right }
     requires right { part.right ≤ input.now.rect.right }
-    ensures { IsRun result.now input.now (reflected rows i) part.left part.right }
+    ensures { IsRowPart result.now input.now (reflected rows i) part.left part.right }
 {
-    input.run(reflect(i, rows), part.left, part.right)
+    input.row_part(reflect(i, rows), part.left, part.right)
 }
 
 /// The sum of the samples at two places of a row.
@@ -88,7 +88,7 @@ impl<'a> Window<'a> {
         Window {
             far_up: row_of(input, whole.rows, i - reach, part),
             up: row_of(input, whole.rows, i - 1, part),
-            here: input.run(r, part.left, part.right),
+            here: input.row_part(r, part.left, part.right),
             down: row_of(input, whole.rows, i + 1, part),
             far_down: row_of(input, whole.rows, i + reach, part),
             left: part.left as usize,

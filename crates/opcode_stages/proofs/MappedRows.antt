@@ -4,7 +4,7 @@ use Rattle.std.proofs.Common.{true, List, get_or, min, sym, ◌∙◌, ap, ⊎_e
 use Rattle.std.proofs.lemmas.Bool.{cases_lt}
 use Rattle.std.proofs.lemmas.Bool.Decides.{nat_tests, same_from_decides}
 use Rattle.plane_view.specs.declared.Rect.{Rect}
-use Rattle.plane_view.specs.Lent.{Lent, IsRun, sample_at}
+use Rattle.plane_view.specs.Lent.{Lent, IsRowPart, sample_at}
 use Rattle.plane_view.specs.Rows.{IsRowOf}
 use Rattle.opcode_stages.specs.Maps.{Mapping, is_mapped, entry_of, mapped_at}
 use Rattle.opcode_stages.specs.inner.MapRows.{is_column, MapsPlanes, IsFirstFrom}
@@ -56,12 +56,12 @@ pub mapped_by : (m : Mapping) (r c p : ℕ) → has_row m r ≡ true
 mapped_by m r c p row = grind (arith, nat_tests)
 
 pub row_mapped : (m : Mapping) (rect : Rect) (L : Lent) (old new : List ℕ) (r first last : ℕ) → has_row m r ≡ true
-    → IsFirstFrom m.rect.left m.col_pitch rect.left first → IsRun old L r rect.left rect.right
+    → IsFirstFrom m.rect.left m.col_pitch rect.left first → IsRowPart old L r rect.left rect.right
     → ((q : ℕ) → q < L.planes → (nat_le m.plane q && nat_lt q last)
     ≡ (nat_le m.plane q && nat_lt q (m.plane + m.planes)))
     → MapsPlanes m.table old new L.planes m.plane last (first - rect.left) (min m.rect.right rect.right - rect.left)
     m.col_pitch → IsRowOf (mapped_at m (sample_at L)) rect L.planes r new
-row_mapped m rect L old new r first last row is_first run planes maps = record {
+row_mapped m rect L old new r first last row is_first row_part planes maps = record {
   samples = λ c p pixel plane.
       let was = get_or old ((c - rect.left) * L.planes + p) 0 in
       let choice = λ (b : Bool) (x : ℕ). if b then entry_of m.table x else x in
@@ -72,7 +72,7 @@ row_mapped m rect L old new r first last row is_first run planes maps = record {
       (same_columns m.rect.left m.rect.right m.col_pitch rect.left rect.right first c is_first pixel.left
       pixel.right)
       ∙ ap (λ b. choice b was) (mapped_by m r c p row)
-      ∙ ap (λ x. choice (is_mapped m r c p) x) (run.samples c p pixel.left pixel.right plane);
+      ∙ ap (λ x. choice (is_mapped m r c p) x) (row_part.samples c p pixel.left pixel.right plane);
 }
 
 -- the planes of a map that are in a pixel

@@ -2,7 +2,7 @@
 
 ghost use Rattle.std.specs.Prelude.{◌≡◌, ◌-◌, ◌*◌, length};
 ghost use Rattle.plane_view.specs.Plane.{crop};
-ghost use Rattle.plane_view.specs.Lent.{HasRun, IsRun};
+ghost use Rattle.plane_view.specs.Lent.{HasRowPart, IsRowPart};
 ghost use Rattle.plane_view.specs.Rectangles.{IsNonEmpty, shifted};
 ghost use Rattle.stage_core.specs.Planes.{IsPart};
 ghost use Rattle.opcode_stages.specs.Crops.{cropped_shape};
@@ -29,13 +29,13 @@ impl Crop {
     }
 }
 
-/// Copies a run of the columns of a row.
-fn copy_run(input: &View<'_>, r: u32, left: u32, right: u32, out: &mut [u16])
-    requires run { HasRun input.now.rect r left right }
+/// Copies a part of a row.
+fn copy_row_part(input: &View<'_>, r: u32, left: u32, right: u32, out: &mut [u16])
+    requires row_part { HasRowPart input.now.rect r left right }
     requires long { length out.old ≡ (right - left) * input.now.planes }
-    ensures { IsRun out.new input.now r left right }
+    ensures { IsRowPart out.new input.now r left right }
 {
-    out.copy_from_slice(input.run(r, left, right));
+    out.copy_from_slice(input.row_part(r, left, right));
 }
 
 impl Stage for Crop {
@@ -83,7 +83,13 @@ impl Stage for Crop {
         work.tick();
         let Rect { top, left, .. } = self.rect;
         let rect = out.rect();
-        out.write_rows(|r, row| copy_run(input, top + r, left + rect.left, left + rect.right, row));
+        out.write_rows(|r, row| copy_row_part(
+            input,
+            top + r,
+            left + rect.left,
+            left + rect.right,
+            row,
+        ));
     }
 
     ghost makes_shapes = { λ s input. crop_shapes s.rect input };

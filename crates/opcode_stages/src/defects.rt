@@ -2,7 +2,7 @@
 
 ghost use Rattle.std.specs.Prelude.{◌≡◌, ℕ, ◌+◌, ◌-◌, ◌*◌, ◌<◌, ◌≤◌, Bool, true, Some, None, IfSome, if◌then◌else◌};
 ghost use Rattle.std.specs.Prelude.{length};
-ghost use Rattle.plane_view.specs.Lent.{HasRow, HasRun, sample_at};
+ghost use Rattle.plane_view.specs.Lent.{HasRow, HasRowPart, sample_at};
 ghost use Rattle.plane_view.specs.Rectangles.{HasPixel, LiesIn, grown, whole_rect, width};
 ghost use Rattle.plane_view.specs.Rows.{IsRowOf};
 ghost use Rattle.plane_view.specs.Shapes.{IsShape};
@@ -26,7 +26,7 @@ pub(crate) trait Defects {
 
     /// The first column of row `r` from `from` on whose pixel is bad, or `to` where there is none before it.
     fn next_bad(&self, input: &View<'_>, r: u32, from: u32, to: u32) -> u32
-        requires run { HasRun input.now.rect r from to }
+        requires row_part { HasRowPart input.now.rect r from to }
         requires planes { input.now.planes ≡ 1 }
         ensures { IsNextBad (bad self.now (sample_at input.now) r) from to result };
 }
@@ -103,7 +103,7 @@ pub(crate) fn fill_row<D: Defects>(
         (sample_at input.now)) rect 1 r out.new }
 {
     let Rect { left, right, .. } = rect;
-    out.copy_from_slice(input.run(r, left, right));
+    out.copy_from_slice(input.row_part(r, left, right));
     let mut c = defects.next_bad(input, r, left, right);
     while c < right {
         out[(c - left) as usize] = mend(defects, input, whole, phase, r, c);

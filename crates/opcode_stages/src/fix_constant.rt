@@ -41,7 +41,7 @@ impl Defects for FixConstant {
     }
 
     fn next_bad(&self, input: &View<'_>, r: u32, from: u32, to: u32) -> u32 {
-        for (k, sample) in input.run(r, from, to).iter().enumerate() {
+        for (k, sample) in input.row_part(r, from, to).iter().enumerate() {
             if u32::from(*sample) == self.constant {
                 return from + k as u32;
             }

@@ -114,7 +114,7 @@ impl MapTable {
         requires out { length out.old ≡ width rect * input.now.planes }
         ensures { IsRowOf (mapped_at self.now (sample_at input.now)) rect input.now.planes r out.new }
     {
-        out.copy_from_slice(input.run(r, rect.left, rect.right));
+        out.copy_from_slice(input.row_part(r, rect.left, rect.right));
         if !self.has_row(r) {
             return;
         }

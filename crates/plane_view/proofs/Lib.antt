@@ -6,6 +6,6 @@ pub mod Loans
 pub mod Parts
 pub mod Pixels
 pub mod Reflections
-pub mod Runs
+pub mod RowParts
 pub mod Samples
 pub mod Writes

@@ -5,7 +5,7 @@ use Rattle.std.proofs.lemmas.List.{get_or-take, get_or-drop, length-take-le, len
 use Rattle.plane_view.specs.declared.Rect.{Rect}
 use Rattle.plane_view.specs.Plane.{place, samples_of}
 use Rattle.plane_view.specs.Rectangles.{HasPixel, LiesIn, height, width}
-use Rattle.plane_view.specs.Lent.{Lent, place_in, sample_at, lent_of, part_of, HasRow, HasRun, IsRun, IsFull}
+use Rattle.plane_view.specs.Lent.{Lent, place_in, sample_at, lent_of, part_of, HasRow, HasRowPart, IsRowPart, IsFull}
 use Rattle.plane_view.proofs.Samples.{length-samples_of, get_or-samples_of, same_samples}
 
 -- planes whose samples agree at each place have the same samples
@@ -80,21 +80,23 @@ part_row_inside L rect r full stays row =
     mul-le-mul_right L.planes pixels in
     omega arith
 
--- a run of a part ends within the lender's samples
-pub run_bound : (L : Lent) (rect : Rect) (r left right : ℕ) → IsFull L → LiesIn rect L.rect → HasRun rect r left right
+-- a row's part within a lent part ends within the lender's samples
+pub row_part_bound : (L : Lent) (rect : Rect) (r left right : ℕ) → IsFull L → LiesIn rect L.rect
+    → HasRowPart rect r left right
     → place_in L.rect L.planes r left 0 + (right - left) * L.planes ≤ length L.samples
-run_bound L rect r left right full lies run =
+row_part_bound L rect r left right full lies row_part =
     part_row_inside L (record { top = r; left = left; bottom = r + 1; right = right }) r full
     (record { top = omega arith; bottom = omega arith; left = omega arith; right = omega arith })
     (record { top = omega arith; bottom = omega arith; cols = omega arith })
 
--- a run of a part stands among the lender's samples
-pub run_of_lender : (L : Lent) (rect : Rect) (r left right start len : ℕ) → start ≡ place_in L.rect L.planes r left 0
+-- a row's part within a lent part stands among the lender's samples
+pub row_part_of_lender : (L : Lent) (rect : Rect) (r left right start len : ℕ)
+    → start ≡ place_in L.rect L.planes r left 0
     → len ≡ (right - left) * L.planes
-    → IsFull L → LiesIn rect L.rect → HasRun rect r left right
-    → IsRun (take len (drop start L.samples)) (part_of L rect) r left right
-run_of_lender L rect r left right start len at is full lies run =
-    let inside = run_bound L rect r left right full lies run in
+    → IsFull L → LiesIn rect L.rect → HasRowPart rect r left right
+    → IsRowPart (take len (drop start L.samples)) (part_of L rect) r left right
+row_part_of_lender L rect r left right start len at is full lies row_part =
+    let inside = row_part_bound L rect r left right full lies row_part in
     record {
       long = length-take-le len (drop start L.samples) (omega (arith, length-drop start L.samples)) ∙ is;
       samples = λ c p from to plane.
@@ -105,8 +107,8 @@ run_of_lender L rect r left right start len at is full lies run =
           ∙ get_or-drop start L.samples ((c - left) * L.planes + p) 0
           ∙ ap (λ n. get_or L.samples n 0) there
           ∙ sym (part_at L rect r c p (record {
-            top = run.top;
-            bottom = run.bottom;
+            top = row_part.top;
+            bottom = row_part.bottom;
             left = omega arith;
             right = omega arith;
           }) plane);

@@ -1,4 +1,4 @@
--- What a write to the samples of a part leaves: one sample, and a run of pixels in a row.
+-- What a write to the samples of a part leaves: one sample, and a part of a row.
 use Rattle.std.proofs.Common.{◌≡◌, ℕ, ◌+◌, ◌-◌, ◌*◌, ◌/◌, ◌%◌, ◌<◌, ◌≤◌, ◌⊎◌, inl, inr, ⊎_elim, List, ◌++◌, length}
 use Rattle.std.proofs.Common.{get_or, take, drop, sym, ◌∙◌, ap, arith}
 use Rattle.std.proofs.Math.ListN.{set, get_or-append}
@@ -10,11 +10,11 @@ use Rattle.std.proofs.lemmas.Nat.{div-mul-add, mod-mul-add}
 use Rattle.std.proofs.lemmas.Slice.{between-put_mid}
 use borrow.Rule.Slice.PartMut.{put_mid, post_of}
 use Rattle.plane_view.specs.Tiles.{row_in}
-use Rattle.plane_view.specs.inner.Runs.{PutsRun}
+use Rattle.plane_view.specs.inner.RowParts.{PutsRowPart}
 use Rattle.plane_view.specs.declared.Rect.{Rect}
 use Rattle.plane_view.specs.Plane.{place}
 use Rattle.plane_view.specs.Rectangles.{HasPixel, LiesIn, height, width}
-use Rattle.plane_view.specs.Lent.{Lent, place_in, sample_at, HasRow, HasRun, IsFull}
+use Rattle.plane_view.specs.Lent.{Lent, place_in, sample_at, HasRow, HasRowPart, IsFull}
 use Rattle.plane_view.proofs.Samples.{place_below}
 use Rattle.plane_view.proofs.Parts.{part_row_inside}
 
@@ -96,10 +96,10 @@ after_mid a k xs ys i within long above =
     ∙ get_or-drop a xs (k + (i - a - k)) 0
     ∙ (let back : a + (k + (i - a - k)) ≡ i = omega arith in ap (λ n. get_or xs n 0) back)
 
--- a run ends within the samples
-pub run_inside : (L : Lent) (r c n : ℕ) → IsFull L → HasRun L.rect r c (c + n)
+-- a row's part ends within the samples
+pub row_part_inside : (L : Lent) (r c n : ℕ) → IsFull L → HasRowPart L.rect r c (c + n)
     → place_in L.rect L.planes r c 0 + n * L.planes ≤ length L.samples
-run_inside L r c n full run =
+row_part_inside L r c n full row_part =
     let w : ℕ = width L.rect in
     let i : ℕ = r - L.rect.top in
     let j : ℕ = c - L.rect.left in
@@ -108,21 +108,22 @@ run_inside L r c n full run =
     let samples : (i * w + j + n) * L.planes ≤ height L.rect * w * L.planes = mul-le-mul_right L.planes pixels in
     omega arith
 
--- the samples of a run after it was written
-abbrev pub with_run : Lent → (r c n : ℕ) → List ℕ → Lent
-with_run L r c n ws = with_samples L (put_mid (place_in L.rect L.planes r c 0) (n * L.planes) L.samples ws)
+-- the samples of a row's part after it was written
+abbrev pub with_row_part : Lent → (r c n : ℕ) → List ℕ → Lent
+with_row_part L r c n ws = with_samples L (put_mid (place_in L.rect L.planes r c 0) (n * L.planes) L.samples ws)
 
--- a sample of the run that was written
-pub run_here : (L : Lent) (r c n : ℕ) (ws : List ℕ) (c' p : ℕ) → IsFull L → HasRun L.rect r c (c + n)
+-- a sample of the part of the row that was written
+pub row_part_here : (L : Lent) (r c n : ℕ) (ws : List ℕ) (c' p : ℕ) → IsFull L → HasRowPart L.rect r c (c + n)
     → length ws ≡ n * L.planes → c ≤ c' → c' < c + n → p < L.planes
-    → sample_at (with_run L r c n ws) r c' p ≡ get_or ws ((c' - c) * L.planes + p) 0
-run_here L r c n ws c' p full run long from to plane =
+    → sample_at (with_row_part L r c n ws) r c' p ≡ get_or ws ((c' - c) * L.planes + p) 0
+row_part_here L r c n ws c' p full row_part long from to plane =
     let a : ℕ = place_in L.rect L.planes r c 0 in
     let next : (c' - c + 1) * L.planes ≤ n * L.planes = mul-le-mul_right L.planes (omega arith) in
     let col : c' - L.rect.left ≡ c - L.rect.left + (c' - c) = omega arith in
     let at : place_in L.rect L.planes r c' p ≡ a + ((c' - c) * L.planes + p) = rw col (omega arith) in
     ap (λ i. get_or (put_mid a (n * L.planes) L.samples ws) i 0) at
-    ∙ in_mid a (n * L.planes) L.samples ws ((c' - c) * L.planes + p) (omega (arith, run_inside L r c n full run))
+    ∙ in_mid a (n * L.planes) L.samples ws ((c' - c) * L.planes + p)
+    (omega (arith, row_part_inside L r c n full row_part))
     (omega arith)
 
 -- a place of an earlier row, or of an earlier column of the row
@@ -150,17 +151,17 @@ place_after cols planes r c n r' c' p' hc order =
     omega arith
 
 -- another sample stays
-pub run_elsewhere : (L : Lent) (r c n : ℕ) (ws : List ℕ) (r' c' p' : ℕ) → IsFull L → HasRun L.rect r c (c + n)
+pub row_part_elsewhere : (L : Lent) (r c n : ℕ) (ws : List ℕ) (r' c' p' : ℕ) → IsFull L → HasRowPart L.rect r c (c + n)
     → length ws ≡ n * L.planes → HasPixel L.rect r' c' → p' < L.planes → (r' ≡ r → c ≤ c' → c' < c + n → ⊥)
-    → sample_at (with_run L r c n ws) r' c' p' ≡ sample_at L r' c' p'
-run_elsewhere L r c n ws r' c' p' full run long pixel plane other =
+    → sample_at (with_row_part L r c n ws) r' c' p' ≡ sample_at L r' c' p'
+row_part_elsewhere L r c n ws r' c' p' full row_part long pixel plane other =
     let w : ℕ = width L.rect in
     let a : ℕ = place_in L.rect L.planes r c 0 in
-    let fits : a + n * L.planes ≤ length L.samples = run_inside L r c n full run in
-    let before : place_in L.rect L.planes r' c' p' < a → sample_at (with_run L r c n ws) r' c' p'
+    let fits : a + n * L.planes ≤ length L.samples = row_part_inside L r c n full row_part in
+    let before : place_in L.rect L.planes r' c' p' < a → sample_at (with_row_part L r c n ws) r' c' p'
     ≡ sample_at L r' c' p' =
     λ below. before_mid a (n * L.planes) L.samples ws (place_in L.rect L.planes r' c' p') below (omega arith) in
-    let after : a + n * L.planes ≤ place_in L.rect L.planes r' c' p' → sample_at (with_run L r c n ws) r' c' p'
+    let after : a + n * L.planes ≤ place_in L.rect L.planes r' c' p' → sample_at (with_row_part L r c n ws) r' c' p'
     ≡ sample_at L r' c' p' =
     λ above. after_mid a (n * L.planes) L.samples ws (place_in L.rect L.planes r' c' p') (omega arith) long above in
     let i : ℕ = r - L.rect.top in
@@ -186,10 +187,10 @@ run_elsewhere L r c n ws r' c' p' full run long pixel plane other =
     (cases_lt r r'))
     (cases_lt r' r)
 
--- a run of a part is one of the lender
-pub run_in : (outer inner : Rect) (r left right : ℕ) → LiesIn inner outer → HasRun inner r left right
-    → HasRun outer r left (left + (right - left))
-run_in outer inner r left right lies run = record {
+-- a part of a row of what is lent is one of the lender
+pub row_part_in : (outer inner : Rect) (r left right : ℕ) → LiesIn inner outer → HasRowPart inner r left right
+    → HasRowPart outer r left (left + (right - left))
+row_part_in outer inner r left right lies row_part = record {
   top = omega arith;
   bottom = omega arith;
   left = omega arith;
@@ -197,26 +198,27 @@ run_in outer inner r left right lies run = record {
   right = omega arith;
 }
 
--- a run that is written in a part leaves what is outside
-pub run_outside : (L : Lent) (rect : Rect) (r left right : ℕ) (ws : List ℕ) → IsFull L → LiesIn rect L.rect
-    → HasRun rect r left right → length ws ≡ (right - left) * L.planes
+-- a row's part that is written in what is lent leaves what is outside
+pub row_part_outside : (L : Lent) (rect : Rect) (r left right : ℕ) (ws : List ℕ) → IsFull L → LiesIn rect L.rect
+    → HasRowPart rect r left right → length ws ≡ (right - left) * L.planes
     → (r' c p : ℕ) → HasPixel L.rect r' c → (HasPixel rect r' c → ⊥) → p < L.planes
-    → sample_at (with_run L r left (right - left) ws) r' c p ≡ sample_at L r' c p
-run_outside L rect r left right ws full lies run long r' c p pixel out plane =
-    run_elsewhere L r left (right - left) ws r' c p full (run_in L.rect rect r left right lies run) long pixel plane
+    → sample_at (with_row_part L r left (right - left) ws) r' c p ≡ sample_at L r' c p
+row_part_outside L rect r left right ws full lies row_part long r' c p pixel out plane =
+    row_part_elsewhere L r left (right - left) ws r' c p full (row_part_in L.rect rect r left right lies row_part) long
+    pixel plane
     (λ row from to. out (record { top = omega arith; bottom = omega arith; left = omega arith; right = omega arith }))
 
--- what a run that is written in a part leaves
-pub part_run : (L : Lent) (rect : Rect) (r left right : ℕ) (ws : List ℕ) → IsFull L → LiesIn rect L.rect
-    → HasRun rect r left right → length ws ≡ (right - left) * L.planes
-    → PutsRun L (with_run L r left (right - left) ws) r left right ws
-part_run L rect r left right ws full lies run long =
-    let whole_run : HasRun L.rect r left (left + (right - left)) = run_in L.rect rect r left right lies run in
+-- what a row's part that is written in what is lent leaves
+pub row_part_put : (L : Lent) (rect : Rect) (r left right : ℕ) (ws : List ℕ) → IsFull L → LiesIn rect L.rect
+    → HasRowPart rect r left right → length ws ≡ (right - left) * L.planes
+    → PutsRowPart L (with_row_part L r left (right - left) ws) r left right ws
+row_part_put L rect r left right ws full lies row_part long =
+    let whole : HasRowPart L.rect r left (left + (right - left)) = row_part_in L.rect rect r left right lies row_part in
     record {
-      written = λ c p from to plane. run_here L r left (right - left) ws c p full whole_run long from (omega arith)
+      written = λ c p from to plane. row_part_here L r left (right - left) ws c p full whole long from (omega arith)
           plane;
       others = λ r' c p pixel plane other.
-          run_elsewhere L r left (right - left) ws r' c p full whole_run long pixel plane
+          row_part_elsewhere L r left (right - left) ws r' c p full whole long pixel plane
           (λ row from to. other row from (omega arith));
     }
 
@@ -229,17 +231,18 @@ between_mid a k xs ys within long =
 -- the row that was written
 pub row_written : (L : Lent) (rect : Rect) (r : ℕ) (ws : List ℕ) → IsFull L → LiesIn rect L.rect → HasRow rect r
     → length ws ≡ width rect * L.planes
-    → row_in (with_run L r rect.left (rect.right - rect.left) ws) rect r ≡ ws
+    → row_in (with_row_part L r rect.left (rect.right - rect.left) ws) rect r ≡ ws
 row_written L rect r ws full lies row long =
     let a : ℕ = place_in L.rect L.planes r rect.left 0 in
-    let run : HasRun L.rect r rect.left (rect.left + width rect) = record {
+    let row_part : HasRowPart L.rect r rect.left (rect.left + width rect) = record {
       top = omega arith;
       bottom = omega arith;
       left = omega arith;
       order = omega arith;
       right = omega arith;
     } in
-    let fits : a + width rect * L.planes ≤ length L.samples = run_inside L r rect.left (width rect) full run in
+    let fits : a + width rect * L.planes ≤ length L.samples = row_part_inside L r rect.left (width rect) full
+    row_part in
     between_mid a (width rect * L.planes) L.samples ws (omega arith) long
 
 -- a sample of a row of a rectangle

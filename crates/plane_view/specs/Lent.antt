@@ -43,7 +43,7 @@ pub record HasRow (rect : Rect) (r : ℕ) : Type 0 where
   pub cols : rect.left ≤ rect.right
 
 -- the pixels of row r from one column up to another lie in the rectangle
-pub record HasRun (rect : Rect) (r from to : ℕ) : Type 0 where
+pub record HasRowPart (rect : Rect) (r from to : ℕ) : Type 0 where
   pub top : rect.top ≤ r
   pub bottom : r < rect.bottom
   pub left : rect.left ≤ from
@@ -51,7 +51,7 @@ pub record HasRun (rect : Rect) (r from to : ℕ) : Type 0 where
   pub right : to ≤ rect.right
 
 -- a list has the samples of row r from column left up to column right, the planes of a pixel side by side
-pub record IsRun (xs : List ℕ) (L : Lent) (r left right : ℕ) : Type 0 where
+pub record IsRowPart (xs : List ℕ) (L : Lent) (r left right : ℕ) : Type 0 where
   pub long : length xs ≡ (right - left) * L.planes
   pub samples : (c p : ℕ) → left ≤ c → c < right → p < L.planes → slice_index xs ((c - left) * L.planes + p)
       ≡ sample_at L r c p

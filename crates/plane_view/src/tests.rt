@@ -101,8 +101,8 @@ fn views(rt: HostRuntime) {
     let part = view.sub(rect(11, 21, 12, 22));
     assert_eq!(rt; part.at(11, 21, 0), 9);
     assert!(rt; part.row(11) == &samples[9..]);
-    assert!(rt; view.run(10, 20, 21) == &samples[..3]);
-    assert!(rt; part.run(11, 22, 22).is_empty());
+    assert!(rt; view.row_part(10, 20, 21) == &samples[..3]);
+    assert!(rt; part.row_part(11, 22, 22).is_empty());
     let one = [65535];
     assert_eq!(rt; View::new(rect(0, 0, 1, 1), 1, &one).at(0, 0, 0), 65535);
 }

@@ -4,7 +4,7 @@ ghost use Rattle.std.specs.Borrow.{MutBor};
 ghost use Rattle.std.specs.Fn.{FnOnceReturnsAtMut};
 ghost use Rattle.plane_view.specs.Rectangles.{HasPixel, LiesIn, width, area_of};
 ghost use Rattle.plane_view.specs.Rows.{IsAsLong, HasSamples, WritesRows};
-ghost use Rattle.plane_view.specs.Lent.{Lent, HasRow, HasRun, lent_of, place_in, sample_at};
+ghost use Rattle.plane_view.specs.Lent.{Lent, HasRow, HasRowPart, lent_of, place_in, sample_at};
 
 use crate::{Rect, View};
 
@@ -25,7 +25,7 @@ pub struct TileMut<'a> {
 impl<'a> TileMut<'a> {
     ghost use Rattle.plane_view.specs.Tiles.{loan, tile_rect, lent_name, row_in, SameLoan, PutsSample, CopiesFrom};
     ghost use Rattle.plane_view.specs.Tiles.{KeepsOtherRows};
-    ghost use Rattle.plane_view.specs.inner.Runs.{PutsRun};
+    ghost use Rattle.plane_view.specs.inner.RowParts.{PutsRowPart};
 
     /// The tile of all samples of a slice, row by row, the planes of a pixel side by side. When the loan ends, the
     /// slice holds what was written.
@@ -90,7 +90,7 @@ impl<'a> TileMut<'a> {
         ensures others { KeepsOtherRows (loan self.old) (loan self.new) (tile_rect self.old) r }
     {
         let Rect { left, right, .. } = self.rect;
-        let (start, len) = self.run_at(r, left, right);
+        let (start, len) = self.row_part_at(r, left, right);
         let samples = &mut *self.samples;
         write(&mut samples[start..start + len]);
     }
@@ -126,23 +126,28 @@ impl<'a> TileMut<'a> {
             return;
         };
         for r in both.top..both.bottom {
-            self.copy_run(r, both.left, both.right, from.run(r, both.left, both.right));
+            self.copy_row_part(
+                r,
+                both.left,
+                both.right,
+                from.row_part(r, both.left, both.right),
+            );
         }
     }
 
-    fn copy_run(&mut self, r: u32, left: u32, right: u32, run: &[u16])
-        requires pixels { HasRun (tile_rect self.old) r left right }
-        requires long { length run.now ≡ (right - left) * (loan self.old).planes }
+    fn copy_row_part(&mut self, r: u32, left: u32, right: u32, samples: &[u16])
+        requires pixels { HasRowPart (tile_rect self.old) r left right }
+        requires long { length samples.now ≡ (right - left) * (loan self.old).planes }
         ensures loan { SameLoan self.old self.new }
-        ensures puts { PutsRun (loan self.old) (loan self.new) r left right run.now }
+        ensures puts { PutsRowPart (loan self.old) (loan self.new) r left right samples.now }
     {
-        let (start, len) = self.run_at(r, left, right);
-        self.samples[start..start + len].copy_from_slice(run);
+        let (start, len) = self.row_part_at(r, left, right);
+        self.samples[start..start + len].copy_from_slice(samples);
     }
 
     /// Where the samples of row `r` from column `left` up to column `right` begin, and how many there are.
-    fn run_at(&self, r: u32, left: u32, right: u32) -> (usize, usize)
-        requires { HasRun (tile_rect self.now) r left right }
+    fn row_part_at(&self, r: u32, left: u32, right: u32) -> (usize, usize)
+        requires { HasRowPart (tile_rect self.now) r left right }
         ensures start { result.0 ≡ place_in (loan self.now).rect (loan self.now).planes r left 0 }
         ensures len { result.1 ≡ (right - left) * (loan self.now).planes }
         ensures within { result.0 + result.1 ≤ length (loan self.now).samples }

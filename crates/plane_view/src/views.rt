@@ -1,7 +1,7 @@
 //! Views: lent parts of planes, for reading.
 ghost use Rattle.std.specs.Prelude.{◌≡◌, ℕ, ◌+◌, ◌-◌, ◌*◌, ◌<◌, ◌≤◌, length};
 ghost use Rattle.plane_view.specs.Rectangles.{HasPixel, LiesIn, width, area_of};
-ghost use Rattle.plane_view.specs.Lent.{Lent, HasRow, HasRun, IsRun, sample_at, part_of};
+ghost use Rattle.plane_view.specs.Lent.{Lent, HasRow, HasRowPart, IsRowPart, sample_at, part_of};
 
 use crate::Rect;
 use std::marker::Model;
@@ -72,15 +72,15 @@ impl<'a> View<'a> {
     /// The samples of row `r`, the planes of a pixel side by side.
     pub fn row(&self, r: u32) -> &[u16]
         requires { HasRow self.now.rect r }
-        ensures { IsRun result.now self.now r self.now.rect.left self.now.rect.right }
+        ensures { IsRowPart result.now self.now r self.now.rect.left self.now.rect.right }
     {
-        self.run(r, self.rect.left, self.rect.right)
+        self.row_part(r, self.rect.left, self.rect.right)
     }
 
     /// The samples of row `r` from column `left` up to column `right`, the planes of a pixel side by side.
-    pub fn run(&self, r: u32, left: u32, right: u32) -> &[u16]
-        requires { HasRun self.now.rect r left right }
-        ensures { IsRun result.now self.now r left right }
+    pub fn row_part(&self, r: u32, left: u32, right: u32) -> &[u16]
+        requires { HasRowPart self.now.rect r left right }
+        ensures { IsRowPart result.now self.now r left right }
     {
         let cols = (self.home.right - self.home.left) as usize;
         let pixel = (r - self.home.top) as usize * cols + (left - self.home.left) as usize;

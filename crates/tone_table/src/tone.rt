@@ -1,7 +1,7 @@
 //! A tone curve as a stage.
 
 ghost use Rattle.std.specs.Prelude.{◌≡◌, ℕ, ◌+◌, ◌-◌, ◌*◌, ◌<◌, ◌≤◌, List, length, IfOk, IsTrue, ◌↔◌};
-ghost use Rattle.plane_view.specs.Lent.{HasRun, sample_at};
+ghost use Rattle.plane_view.specs.Lent.{HasRowPart, sample_at};
 ghost use Rattle.plane_view.specs.Rectangles.{width};
 ghost use Rattle.plane_view.specs.Rows.{IsRowOf};
 ghost use Rattle.tone_table.specs.Tones.{IsTableOf, entry_at, toned};
@@ -90,13 +90,13 @@ fn look_up(table: &[u16], from: &[u16], out: &mut [u16])
 
 /// Looks row `r` of a rectangle up.
 fn look_up_row(input: &View<'_>, table: &[u16], rect: Rect, r: u32, out: &mut [u16])
-    requires run { HasRun input.now.rect r rect.left rect.right }
+    requires row_part { HasRowPart input.now.rect r rect.left rect.right }
     requires planes { input.now.planes ≡ 3 }
     requires table { length table.now ≡ 65536 }
     requires long { length out.old ≡ width rect * 3 }
     ensures { IsRowOf (entry_at table.now (sample_at input.now)) rect 3 r out.new }
 {
-    look_up(table, input.run(r, rect.left, rect.right), out);
+    look_up(table, input.row_part(r, rect.left, rect.right), out);
 }
 
 impl Stage for Tone {

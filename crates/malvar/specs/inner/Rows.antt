@@ -1,7 +1,7 @@
 -- A row of pixels, from rows of samples: this project's own.
 use Rattle.std.specs.Prelude.{◌≡◌, ℕ, ◌+◌, ◌-◌, ◌*◌, ◌<◌, ◌≤◌, min, pos, ◌-ℤ◌, List, length, slice_index, slice_set}
 use Rattle.plane_view.specs.Reflect.{reflected}
-use Rattle.plane_view.specs.Lent.{Lent, IsRun}
+use Rattle.plane_view.specs.Lent.{Lent, IsRowPart}
 use Rattle.malvar.specs.declared.Kind.{Kind}
 use Rattle.malvar.specs.Demosaic.{table_of, reach_of}
 use Rattle.malvar.specs.inner.Around.{own_colour, next_colour, sample_by, site_at}
@@ -65,8 +65,8 @@ SameBelow xs ys k = (i : ℕ) → i < k * 3 → slice_index ys i ≡ slice_index
 -- the window has row r of a lent part, of a plane of so many rows, and the rows that are next to it and so far from it:
 -- reflected where they are outside the plane
 pub record IsWindowOf (reach : ℕ) (w : Window) (L : Lent) (rows r : ℕ) : Type 0 where
-  pub far_up : IsRun w.far_up.now L (reflected rows (pos r -ℤ pos reach)) w.left (w.left + count_of w)
-  pub up : IsRun w.up.now L (reflected rows (pos r -ℤ pos 1)) w.left (w.left + count_of w)
-  pub here : IsRun w.here.now L r w.left (w.left + count_of w)
-  pub down : IsRun w.down.now L (reflected rows (pos (r + 1))) w.left (w.left + count_of w)
-  pub far_down : IsRun w.far_down.now L (reflected rows (pos (r + reach))) w.left (w.left + count_of w)
+  pub far_up : IsRowPart w.far_up.now L (reflected rows (pos r -ℤ pos reach)) w.left (w.left + count_of w)
+  pub up : IsRowPart w.up.now L (reflected rows (pos r -ℤ pos 1)) w.left (w.left + count_of w)
+  pub here : IsRowPart w.here.now L r w.left (w.left + count_of w)
+  pub down : IsRowPart w.down.now L (reflected rows (pos (r + 1))) w.left (w.left + count_of w)
+  pub far_down : IsRowPart w.far_down.now L (reflected rows (pos (r + reach))) w.left (w.left + count_of w)

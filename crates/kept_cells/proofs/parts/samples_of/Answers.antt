@@ -31,8 +31,8 @@ loop-row-preserved c =
     let below : rect.top ≤ row = omega (arith, c.loop-row.auto.row) in
     record {
       rows = c.in_ok-extend_from_slice.ensures.items
-          ∙ ap (λ (xs : List ℕ). xs ++ c.run.result.now) c.loop-row.invariant.rows
-          ∙ sym (rows_more c.args.part.now rect row c.run.result.now below order c.run.ensures);
+          ∙ ap (λ (xs : List ℕ). xs ++ c.row_part.result.now) c.loop-row.invariant.rows
+          ∙ sym (rows_more c.args.part.now rect row c.row_part.result.now below order c.row_part.ensures);
       within = omega (arith, c.loop-row-test.true, below);
     }
 

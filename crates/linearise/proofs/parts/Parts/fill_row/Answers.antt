@@ -3,7 +3,7 @@ use Rattle.std.specs.Prelude.{◌+ℤ◌}
 use Rattle.std.specs.Int.{w32}
 use Rattle.std.proofs.lemmas.Int.{ints}
 use Rattle.plane_view.specs.Lent.{sample_at}
-use Rattle.plane_view.proofs.Runs.{run_point}
+use Rattle.plane_view.proofs.RowParts.{row_part_point}
 use Rattle.linearise.specs.inner.Held.{black_in}
 use Rattle.linearise.specs.Linear.{by_table, linear_at}
 use Rattle.linearise.specs.Parameters.{black_of}
@@ -30,14 +30,15 @@ returns c =
           ∙ ap (λ n. get_or b.across (r % b.repeat * b.cols + n) (pos 0)) column) i +ℤ (down_is
           ∙ c.down.ensures.value) i)
           ∙ sym (area_at b.rows b.cols (black_in b) r k (omega arith) (omega arith)) in
-          let sample : get_or c.run-samples.result.now j 0 ≡ sample_at L r k p =
-          ap (λ n. get_or c.run-samples.result.now n 0) (sym at)
-          ∙ run_point c.run-samples.result.now L r rect.left rect.right c.run-samples.ensures k p j 1 (sym column)
+          let sample : get_or c.row_part-samples.result.now j 0 ≡ sample_at L r k p =
+          ap (λ n. get_or c.row_part-samples.result.now n 0) (sym at)
+          ∙ row_part_point c.row_part-samples.result.now L r rect.left rect.right c.row_part-samples.ensures k p j 1
+          (sym column)
           (sym c.requires.planes) (omega arith) (omega arith) in
           ap (λ n. get_or c.make_linear.new.out n 0) at
           ∙ c.make_linear.ensures.done j (omega arith)
           ∙ ap (λ z. linear_at (pos s.scale.span) z (get_or c.look_up.new.out j 0)) black
           ∙ ap (λ v. linear_at (pos s.scale.span) (black_of (seen s) r k) v) (c.look_up.ensures.values j (omega arith)
-          ∙ ap (λ t. by_table t (get_or c.run-samples.result.now j 0)) c.as_slice.ensures
+          ∙ ap (λ t. by_table t (get_or c.row_part-samples.result.now j 0)) c.as_slice.ensures
           ∙ ap (by_table s.table) sample);
     }

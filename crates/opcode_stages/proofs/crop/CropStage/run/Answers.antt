@@ -1,8 +1,8 @@
 use Rattle.std.proofs.Common.{rules, ◌+◌, ◌-◌, subst, arith}
 use Rattle.plane_view.specs.declared.Rect.{Rect}
 use Rattle.plane_view.specs.Rectangles.{shifted}
-use Rattle.plane_view.specs.Lent.{IsRun, sample_at}
-use Rattle.plane_view.proofs.Runs.{run_point}
+use Rattle.plane_view.specs.Lent.{IsRowPart, sample_at}
+use Rattle.plane_view.proofs.RowParts.{row_part_point}
 use Rattle.stage_core.proofs.Formulas.{made_by}
 use Rattle.opcode_stages.specs.Crops.{cropped_shape, cropped_at}
 use Rattle.opcode_stages.specs.CropLaws.{crop_rests}
@@ -21,11 +21,12 @@ returns-clause-made g c =
     (c.write_rows.ensures.rows f
     (λ r old new row long_old long_new called.
     let at : Rect = c.rect-rect.result in
-    let copied : IsRun new.now input (q.top + r) (q.left + at.left) (q.left + at.right) = search rules in
-    let run = subst (λ (x : Rect). IsRun new.now input (q.top + r) (q.left + x.left) (q.left + x.right))
+    let copied : IsRowPart new.now input (q.top + r) (q.left + at.left) (q.left + at.right) = search rules in
+    let row_part = subst (λ (x : Rect). IsRowPart new.now input (q.top + r) (q.left + x.left) (q.left + x.right))
     c.rect-rect.ensures copied in
     record {
-      samples = λ k p pixel plane. run_point new.now input (q.top + r) (q.left + first.rect.left)
-          (q.left + first.rect.right) run (q.left + k) p (k - first.rect.left) first.planes (omega arith) (omega arith)
+      samples = λ k p pixel plane. row_part_point new.now input (q.top + r) (q.left + first.rect.left)
+          (q.left + first.rect.right) row_part (q.left + k) p (k - first.rect.left) first.planes (omega arith)
+          (omega arith)
           (omega arith) (omega arith);
     }))

@@ -1,5 +1,5 @@
 use Rattle.std.proofs.Common.{◌≡◌, ℕ, true, ◌+◌, ◌-◌, ◌∙◌, List, min, sym, ap, subst}
-use Rattle.plane_view.specs.Lent.{IsRun, sample_at}
+use Rattle.plane_view.specs.Lent.{IsRowPart, sample_at}
 use Rattle.plane_view.specs.Rows.{IsRowOf}
 use Rattle.opcode_stages.specs.Maps.{Mapping, mapped_at}
 use Rattle.opcode_stages.specs.inner.MapRows.{MapsPlanes}
@@ -28,8 +28,8 @@ returns c =
     subst (λ (seen : Mapping). IsRowOf (mapped_at seen (sample_at L)) rect L.planes c.args.r now) c.self.view_is
     (row_mapped m rect L was now c.args.r first p (subst (λ (seen : Mapping). has_row seen c.args.r ≡ true)
     (sym c.self.view_is) (sym c.if-not-has_row.ensures)) c.first_from.ensures.first
-    (subst (λ (xs : List ℕ). IsRun xs L c.args.r rect.left rect.right) (sym c.copy_from_slice.ensures.after)
-    c.run.ensures)
+    (subst (λ (xs : List ℕ). IsRowPart xs L c.args.r rect.left rect.right) (sym c.copy_from_slice.ensures.after)
+    c.row_part.ensures)
     (λ q plane. same_planes m.plane m.planes L.planes c.min-end.result p q (c.min-end.ensures
     ∙ ap (λ n. min (m.plane + m.planes) n) count) c.loop-p-test.false c.loop-p.auto.p c.loop-p.auto.p-end plane)
     (subst (λ (n : ℕ). MapsPlanes m.table was now n m.plane p (first - rect.left)

@@ -23,10 +23,10 @@ loop-r-init c =
       others = λ r c' p inside out plane. refl;
     }
 
-pub copy_run-requires-clause-long : goal.copy_run-requires-clause-long
-copy_run-requires-clause-long c =
+pub copy_row_part-requires-clause-long : goal.copy_row_part-requires-clause-long
+copy_row_part-requires-clause-long c =
     let planes : c.args.from.now.planes ≡ c.loop-r.self.planes = c.requires ∙ sym c.loop-r.invariant.same.planes in
-    c.run.ensures.long ∙ ap (λ n. width c.in-Some.both * n) planes
+    c.row_part.ensures.long ∙ ap (λ n. width c.in-Some.both * n) planes
 
 pub loop-r-preserved : goal.loop-r-preserved
 loop-r-preserved c =
@@ -38,8 +38,8 @@ loop-r-preserved c =
     let now_plane : (p : ℕ) → p < c.args.self.now.planes → p < c.loop-r.self.planes =
     λ p plane. subst (λ (n : ℕ). p < n) (sym c.loop-r.invariant.same.planes) plane in
     record {
-      same = then_loan c.args.self.now c.loop-r.self c.copy_run.new.self c.loop-r.invariant.same
-          c.copy_run.ensures.loan;
+      same = then_loan c.args.self.now c.loop-r.self c.copy_row_part.new.self c.loop-r.invariant.same
+          c.copy_row_part.ensures.loan;
       copied = λ r c' p mine theirs below plane.
           let shared : HasPixel both r c' =
           (c.in-Some.ensures.pixels r c').1 (
@@ -49,21 +49,21 @@ loop-r-preserved c =
           ) in
           ⊎_elim
           (λ (earlier : r < c.loop-r.r).
-          c.copy_run.ensures.puts.others r c' p
+          c.copy_row_part.ensures.puts.others r c' p
           (now_home r c' (pixel_in c.args.self.now.home c.args.self.now.rect r c' c.args.self.now.inside mine))
           (now_plane p plane) (λ same from to. omega arith)
           ∙ c.loop-r.invariant.copied r c' p mine theirs earlier plane)
           (λ (last : c.loop-r.r ≤ r).
           let is : r ≡ c.loop-r.r = omega arith in
           let in_view : p < V.planes = subst (λ (n : ℕ). p < n) (sym c.requires) plane in
-          ap (λ i. sample_at (loan c.copy_run.new.self) i c' p) is
-          ∙ c.copy_run.ensures.puts.written c' p shared.left shared.right (now_plane p plane)
-          ∙ ap (λ n. get_or c.run.result.now ((c' - both.left) * n + p) 0) (sym planes)
-          ∙ c.run.ensures.samples c' p shared.left shared.right in_view
+          ap (λ i. sample_at (loan c.copy_row_part.new.self) i c' p) is
+          ∙ c.copy_row_part.ensures.puts.written c' p shared.left shared.right (now_plane p plane)
+          ∙ ap (λ n. get_or c.row_part.result.now ((c' - both.left) * n + p) 0) (sym planes)
+          ∙ c.row_part.ensures.samples c' p shared.left shared.right in_view
           ∙ ap (λ i. sample_at V i c' p) (sym is))
           (cases_lt r c.loop-r.r);
       others = λ r c' p inside out plane.
-          c.copy_run.ensures.puts.others r c' p (now_home r c' inside) (now_plane p plane)
+          c.copy_row_part.ensures.puts.others r c' p (now_home r c' inside) (now_plane p plane)
           (λ same from to.
           let shared : HasPixel both r c' = record { top = omega arith; bottom = omega arith; left = from; right = to }
           in
