@@ -7,19 +7,14 @@ use Rattle.std.proofs.lemmas.List.Concat.{flat_map-append}
 use Rattle.std.proofs.lemmas.List.Elements.{All-append, All-from_get_or, All-nil}
 use Rattle.std.proofs.lemmas.List.FromFn.{get_or-map-range_with_len, length-map-range_with_len, map-range_with_len_more}
 use Rattle.strip_unpack.specs.Samples.{part_at}
+use Rattle.ljpeg_predict.proofs.EncodeLemmas.{one_place}
 use Rattle.frame_make.specs.Made.{made_row, made_sample, made_samples}
-
-one_more : (count : ℕ) → range_with_len 0 (count + 1) ≡ range_with_len 0 count ++ count ∷ []
-one_more count =
-    let same : ℕ → ℕ = λ n. n in
-    sym (map-id (range_with_len 0 (count + 1))) ∙ map-range_with_len_more same 0 count count (omega arith)
-    ∙ ap (λ x. x ++ count ∷ []) (map-id (range_with_len 0 count))
 
 -- one more row
 pub one_row_more : (row : ℕ → List ℕ) (count : ℕ)
     → flat_map row (range_with_len 0 (count + 1)) ≡ flat_map row (range_with_len 0 count) ++ row count
 one_row_more row count =
-    ap (flat_map row) (one_more count)
+    ap (flat_map row) (one_place count)
     ∙ flat_map-append row (range_with_len 0 count) (count ∷ [])
     ∙ ap (λ x. flat_map row (range_with_len 0 count) ++ x) (append-nil (row count))
 

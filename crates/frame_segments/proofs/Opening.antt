@@ -6,7 +6,7 @@ use Rattle.std.specs.Bool.{OnTrue}
 use Rattle.std.specs.Result.{result_unwrap_or}
 use Rattle.std.proofs.lemmas.Bool.{eqb-true}
 use Rattle.std.proofs.lemmas.List.{length-map}
-use Rattle.std.proofs.lemmas.Option.{get_or_from_slice_get, slice_get-map}
+use Rattle.std.proofs.lemmas.Option.{get_or_from_slice_get, same_Some, slice_get-map}
 use Rattle.plane_view.specs.Lent.{AgreesWith, Lent, sample_at}
 use Rattle.plane_view.specs.Rectangles.{HasPixel, has_pixel}
 use Rattle.plane_view.specs.declared.Rect.{Rect}
@@ -27,9 +27,6 @@ use Rattle.dng_tags.specs.declared.record.Segment.{Segment}
 use Rattle.dng_tags.proofs.RawLemmas.{raw_sample-at}
 use Rattle.frame_segments.specs.inner.Buffers.{AreOpened, Holds, IsCoding, IsDecodable}
 use Rattle.frame_segments.specs.Opened.{rects_of}
-
-same_some : {A : Type 0} (a b : A) → Some a ≡ Some b → a ≡ b
-same_some a b e = cc
 
 -- the segment of a cell
 segment_from : (o : Option Segment) (rect : Rect) → option_map (λ segment. segment.rect) o ≡ Some rect
@@ -119,7 +116,7 @@ reopened bytes coding shape segments old new held k segment opened same at holds
   fit = λ j other atj. let fits = opened.fit j other atj in
       record { inside = fits.inside; room = omega (arith, fits.room, same); some = fits.some; few = fits.few };
   decodable = opened.decodable;
-  holds = λ other ato. let one : segment ≡ other = same_some segment other (sym at ∙ ato) in
+  holds = λ other ato. let one : segment ≡ other = same_Some segment other (sym at ∙ ato) in
       subst (Holds new bytes coding) one holds;
 }
 

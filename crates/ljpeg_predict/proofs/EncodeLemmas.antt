@@ -179,7 +179,8 @@ pub sample_bits-none : (scan : Scan) (samples : List ℕ) → sample_bits scan s
 unfolding sample_bits
 sample_bits-none told samples = refl
 
-one_place : (count : ℕ) → range_with_len 0 (count + 1) ≡ range_with_len 0 count ++ count ∷ []
+-- the numbers up to one more
+pub one_place : (count : ℕ) → range_with_len 0 (count + 1) ≡ range_with_len 0 count ++ count ∷ []
 one_place count =
     let same : ℕ → ℕ = λ n. n in
     sym (map-id (range_with_len 0 (count + 1))) ∙ map-range_with_len_more same 0 count count (zero-add count)

@@ -1,5 +1,5 @@
 -- The headers up to a scan's data (ITU-T T.81, B.2), as lossless JPEG has them (B.2.4 and annex H).
-use Rattle.std.specs.Prelude.{ℕ, zero, suc, ◌+◌, ◌*◌, ◌/◌, ◌%◌, ◌==◌, ◌≤◌, nat_eq, nat_lt, Bool, not, ◌||◌}
+use Rattle.std.specs.Prelude.{ℕ, zero, suc, ◌+◌, ◌*◌, ◌/◌, ◌%◌, ◌==◌, nat_eq, nat_lt, Bool, not, ◌||◌}
 use Rattle.std.specs.Prelude.{if◌then◌else◌, List, [], ◌∷◌, length, map, sum, take, drop, slice_index, slice_index_or}
 use Rattle.std.specs.Prelude.{slice_set, Option, None, Some, is_some, is_none, unwrap_or, Result, Ok, Err}
 use Rattle.std.specs.List.{list_any, range_with_len, starts_with}

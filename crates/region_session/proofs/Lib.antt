@@ -1,5 +1,4 @@
 pub mod Copying
-pub mod Counting
 pub mod Covering
 pub mod Layering
 pub mod Listing

@@ -1,5 +1,5 @@
 -- Cells that are fetched one after the other.
-use Rattle.std.proofs.Common.{◌≡◌, ℕ, ◌+◌, ◌-◌, ◌*◌, ◌<◌, ◌≤◌, ◌^◌, List, length, get_or, Some, slice_get, inl, inr}
+use Rattle.std.proofs.Common.{◌≡◌, ℕ, ◌+◌, ◌-◌, ◌*◌, ◌<◌, List, length, get_or, Some, slice_get, inl, inr}
 use Rattle.std.proofs.Common.{refl, sym, ◌∙◌, ap, subst, arith}
 use Rattle.std.proofs.Math.Nat.{sub-zero}
 use Rattle.std.proofs.lemmas.Bool.{cases_lt}
@@ -148,14 +148,6 @@ cell_inside P cells s k cell whole are plane is at =
       left = omega arith;
       right = omega (arith, part.inside.right);
     })
-
--- no cell was counted yet
-pub raised_none : (n : ℕ) → n ≤ 2 ^ 64 - 1 → n ≡ raised n 0
-raised_none n held = omega arith
-
--- one more was counted
-pub raised_more : (n now k next : ℕ) → now ≡ raised n k → next ≡ raised now 1 → next ≡ raised n (k + 1)
-raised_more n now k next is more = omega arith
 
 -- the rectangle of a shape is that of a plane of it
 pub whole_rect_is : (P : Plane) (s : Shape) → IsPlane P s → whole_rect s.rows s.cols ≡ whole_rect P.rows P.cols

@@ -1,4 +1,5 @@
 pub mod CellLemmas
+pub mod Counting
 pub mod FetchedCells
 pub mod Formulas
 pub mod PixelCells

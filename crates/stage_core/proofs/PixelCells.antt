@@ -2,7 +2,7 @@
 use Rattle.std.proofs.Common.{◌≡◌, ℕ, ◌+◌, ◌<◌, ◌≤◌, List, Some, length, map, slice_get, sym, ap, ◌∙◌, subst, arith}
 use Rattle.std.specs.List.{range_with_len}
 use Rattle.std.proofs.lemmas.List.FromFn.{get_or-map-range_with_len, length-map-range_with_len}
-use Rattle.std.proofs.lemmas.Option.{slice_get-get_or, slice_get_within}
+use Rattle.std.proofs.lemmas.Option.{same_Some, slice_get-get_or, slice_get_within}
 use Rattle.plane_view.specs.declared.Rect.{Rect}
 use Rattle.plane_view.specs.Rectangles.{HasPixel, has_pixel}
 use Rattle.plane_view.proofs.Pixels.{has_pixel-true}
@@ -25,13 +25,10 @@ pixel_at n k h =
     slice_get-get_or (pixels n) k (pixel 0) h
     ∙ ap Some (get_or-map-range_with_len pixel 0 n k k (pixel 0) within (omega arith))
 
-same_rect : {A : Type 0} (a b : A) → Some a ≡ Some b → a ≡ b
-same_rect a b e = cc
-
 pixel_is : (n k : ℕ) (rect : Rect) → slice_get (pixels n) k ≡ Some rect → (k < n) × (pixel k ≡ rect)
 pixel_is n k rect e =
     let within = slice_get_within (pixels n) k rect e in
-    (omega (arith, count_of_pixels n), same_rect (pixel k) rect (sym (pixel_at n k within) ∙ e))
+    (omega (arith, count_of_pixels n), same_Some (pixel k) rect (sym (pixel_at n k within) ∙ e))
 
 pub pixels_are_cells : (n : ℕ) → 0 < n → n ≤ 8192 → AreCells (pixels n) (record { rows = 1; cols = n; planes = 1 })
 pixels_are_cells n some few =

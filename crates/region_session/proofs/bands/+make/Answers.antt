@@ -29,7 +29,7 @@ use Rattle.region_session.specs.declared.layers.Layer.{Layer}
 use Rattle.region_session.specs.inner.Parts.{HasCells, Shows}
 use Rattle.region_session.specs.Stacks.{last_shape}
 use Rattle.region_session.proofs.Copying.{filled_from, missing_told}
-use Rattle.region_session.proofs.Counting.{raised_none}
+use Rattle.stage_core.proofs.Counting.{raised_none}
 use Rattle.region_session.proofs.Covering.{cells_are_parts, shows_wanted}
 use Rattle.region_session.proofs.NoneMissing.{kept_fresh, no_fetches, no_runs, none_of}
 use Rattle.region_session.proofs.OverLower.{fetches_below, kept_below, needs_agree, needs_lie, rights_above}

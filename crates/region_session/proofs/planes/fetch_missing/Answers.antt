@@ -14,7 +14,7 @@ use Rattle.kept_cells.specs.Kept.{size_of}
 use Rattle.kept_cells.proofs.Keeping.{absent_step, put_step}
 use Rattle.kept_cells.proofs.Lower.{put_others, put_right}
 use Rattle.region_session.specs.inner.Parts.{HasCells}
-use Rattle.region_session.proofs.Counting.{raised_more, raised_none}
+use Rattle.stage_core.proofs.Counting.{raised_more, raised_none}
 use Rattle.region_session.proofs.Copying.{cells_next, part_is}
 use Rattle.region_session.proofs.Sizes.{small_part}
 use Rattle.region_session.proofs.planes.fetch_missing.Goals as goal

@@ -1,9 +1,9 @@
-use Rattle.std.proofs.Common.{◌≡◌, ◌+◌, drop, sym, ◌∙◌, ap, subst, arith}
+use Rattle.std.proofs.Common.{◌≡◌, ◌+◌, ◌∷◌, drop, sym, ◌∙◌, ap, subst, arith}
+use Rattle.std.proofs.lemmas.List.{drop_more}
 use Rattle.plane_view.specs.declared.Shape.{Shape}
 use Rattle.plane_view.specs.Plane.{Plane}
 use Rattle.stage_core.specs.Stages.{shape_of}
 use Rattle.stage_chain.specs.Chains.{TakeInTurn, whole_of}
-use Rattle.stage_chain.proofs.Turns.{next_stage}
 use Rattle.stage_chain.proofs.running.run_in_turn.Goals as goal
 
 pub loop-stage-preserved : goal.loop-stage-preserved
@@ -12,8 +12,9 @@ loop-stage-preserved g c =
     let stage = c.stage-item.result in
     let P : Plane = l.plane in
     let Q : Plane = g.S.Stage.apply stage P in
-    let next = next_stage c.args.stages.now l.stage-index stage (omega arith) c.stage-item.is in
     let later = drop (l.stage-index + 1) c.args.stages.now in
+    let next = drop_more c.args.stages.now l.stage-index stage (omega arith)
+    ∙ ap (λ first. first ∷ later) (sym c.stage-item.is) in
     let takes = subst (λ xs. TakeInTurn g.S.Stage.takes g.S.Stage.shaped xs (shape_of P)) next l.invariant.takes in
     let same = subst (λ xs. whole_of g.S.Stage.apply xs P ≡ whole_of g.S.Stage.apply c.args.stages.now c.args.plane)
     next l.invariant.same in

@@ -1,12 +1,11 @@
-use Rattle.std.proofs.Common.{◌≡◌, ℕ, ◌+◌, List, length, Some, slice_get, refl, sym, ◌∙◌, ap, subst, arith}
+use Rattle.std.proofs.Common.{◌≡◌, ◌+◌, List, length, Some, slice_get, refl, sym, ◌∙◌, ap, subst, arith}
 use Rattle.plane_view.specs.declared.Rect.{Rect}
 use Rattle.plane_view.specs.Plane.{Plane}
 use Rattle.plane_view.specs.Lent.{AgreesWith, Lent}
-use Rattle.plane_view.specs.Rectangles.{LiesIn, whole_rect}
 use Rattle.plane_view.specs.Tiles.{loan, tile_rect}
 use Rattle.stage_core.specs.Bases.{raised}
-use Rattle.stage_core.proofs.FetchedCells.{cell_inside, fetched_all, fetched_more, fetched_none, raised_more}
-use Rattle.stage_core.proofs.FetchedCells.{raised_none}
+use Rattle.stage_core.proofs.FetchedCells.{cell_inside, fetched_all, fetched_more, fetched_none}
+use Rattle.stage_core.proofs.Counting.{raised_more, raised_none}
 use Rattle.stage_core.proofs.fetching.fetch_cells.Goals as goal
 
 pub loop-k-init : goal.loop-k-init
@@ -15,7 +14,7 @@ loop-k-init g c = record {
   plane_is = refl;
   cells_are = refl;
   work = omega arith;
-  count = raised_none (g.B.Base.fetches c.args.base.now) (g.met.B.Base.held c.args.base.now);
+  count = sym (raised_none _ (g.met.B.Base.held c.args.base.now));
 }
 
 pub focus-requires : goal.focus-requires
@@ -51,8 +50,7 @@ loop-k-preserved g c =
       plane_is = c.fetch.ensures.plane ∙ c.loop-k.invariant.plane_is;
       cells_are = c.fetch.ensures.cells ∙ c.loop-k.invariant.cells_are;
       work = omega (arith, c.fetch.ensures.work, c.loop-k.invariant.work);
-      count = raised_more (g.B.Base.fetches c.args.base.now) (g.B.Base.fetches c.loop-k.base) c.loop-k.k
-          (g.B.Base.fetches c.fetch.new.self) c.loop-k.invariant.count c.fetch.ensures.count;
+      count = c.fetch.ensures.count ∙ ap (λ m. raised m 1) c.loop-k.invariant.count ∙ raised_more _ c.loop-k.k 1;
     }
 
 pub returns : goal.returns
