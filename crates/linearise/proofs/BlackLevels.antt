@@ -8,7 +8,8 @@ use Rattle.std.proofs.lemmas.Nat.{div_below, div-mul-add, mod-mul-add, mod_below
 use Rattle.std.specs.Prelude.{◌+ℤ◌}
 use Rattle.dng_tags.specs.Black.{across_at, black_at}
 use Rattle.dng_tags.specs.declared.record.Levels.{Levels}
-use Rattle.linearise.specs.Blacks.{area_of, black_by}
+use Rattle.linearise.specs.Blacks.{area_of}
+use Rattle.linearise.specs.inner.Blacks.{black_by}
 
 -- a level of an area, by its place
 pub area_at : (rows cols : ℕ) (f : ℕ → ℕ → ℤ) (r c : ℕ) → r < rows → c < cols

@@ -5,7 +5,8 @@ ghost use Rattle.std.specs.Prelude.{IfOk, IsTrue};
 ghost use Rattle.dng_tags.specs.Black.{across_at, black_at};
 ghost use Rattle.dng_tags.specs.Facts.{AreDeltas, AreRanged, IsBlackPattern};
 ghost use Rattle.tag_rules.specs.Quantities.{AreWithin, IsWithin};
-ghost use Rattle.linearise.specs.Blacks.{AreBlacks, AreSides, area_of, black_by};
+ghost use Rattle.linearise.specs.Blacks.{area_of};
+ghost use Rattle.linearise.specs.inner.Blacks.{AreBlacks, IsAreaSize, black_by};
 
 use dng_tags::Levels;
 use lists::Items;
@@ -36,7 +37,7 @@ impl Blacks {
         rows: u32,
         cols: u32,
     ) -> Result<Blacks, AllocError>
-        requires sides { AreSides rows cols }
+        requires sides { IsAreaSize rows cols }
         requires pattern { IsBlackPattern levels.now }
         requires delta_h { AreDeltas levels.now.delta_h cols }
         requires delta_v { AreDeltas levels.now.delta_v rows }

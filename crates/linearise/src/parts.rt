@@ -6,7 +6,8 @@ ghost use Rattle.plane_view.specs.Rectangles.{LiesIn, width};
 ghost use Rattle.plane_view.specs.Rows.{IsRowOf};
 ghost use Rattle.dng_tags.specs.Black.{black_at};
 ghost use Rattle.dng_tags.specs.Facts.{AreRanged};
-ghost use Rattle.linearise.specs.Blacks.{AreSides, area_of};
+ghost use Rattle.linearise.specs.Blacks.{area_of};
+ghost use Rattle.linearise.specs.inner.Blacks.{IsAreaSize};
 ghost use Rattle.linearise.specs.Parameters.{IsArea, linear_of, same_parameters};
 ghost use Rattle.linearise.specs.Settings.{with_black};
 
@@ -40,7 +41,7 @@ impl Parts {
         black: Option<u16>,
         span: u32,
     ) -> Result<Parts, AllocError>
-        requires sides { AreSides rows cols }
+        requires sides { IsAreaSize rows cols }
         requires ranged { AreRanged levels.now rows cols }
         requires some_span { 1 ≤ span }
         requires span { span < 2 ^ 29 }

@@ -3,7 +3,8 @@
 ghost use Rattle.std.specs.Prelude.{◌≡◌, ◌*◌, ◌≤◌, ◌^◌, pos, neg_ℤ, ◌≤ℤ◌, ◌<ℤ◌, [], ◌∷◌, IfOk};
 ghost use Rattle.dng_tags.specs.Black.{black_at, greatest_black, span_of};
 ghost use Rattle.dng_tags.specs.Facts.{AreRanged};
-ghost use Rattle.linearise.specs.Blacks.{AreSides, area_of};
+ghost use Rattle.linearise.specs.Blacks.{area_of};
+ghost use Rattle.linearise.specs.inner.Blacks.{IsAreaSize};
 ghost use Rattle.linearise.specs.inner.Held.{blacks_in};
 ghost use Rattle.linearise.specs.Settings.{under, white_under, with_black};
 
@@ -21,7 +22,7 @@ pub(crate) fn span(
     black: Option<u16>,
     white: Option<u16>,
 ) -> i64
-    requires sides { AreSides rows cols }
+    requires sides { IsAreaSize rows cols }
     requires ranged { AreRanged levels.now rows cols }
     ensures value { result ≡ span_of (under levels.now black white) rows cols }
     ensures most { result <ℤ pos (2 ^ 29) }
@@ -46,7 +47,7 @@ fn white_of(levels: &Levels, white: Option<u16>) -> u32
 /// The greatest black level of an area in 256ths: that of the settings, if there is one.
 #[tactic(auto, using(crate::proofs::UnderSettings::greatest_even))]
 fn greatest_of(levels: &Levels, rows: u32, cols: u32, black: Option<u16>) -> i64
-    requires sides { AreSides rows cols }
+    requires sides { IsAreaSize rows cols }
     requires ranged { AreRanged levels.now rows cols }
     ensures value { result ≡ greatest_black (with_black levels.now black) rows cols }
     ensures low { neg_ℤ (pos 268435456) ≤ℤ result }
@@ -66,7 +67,7 @@ pub(crate) fn blacks_of(
     cols: u32,
     black: Option<u16>,
 ) -> Result<Blacks, AllocError>
-    requires sides { AreSides rows cols }
+    requires sides { IsAreaSize rows cols }
     requires ranged { AreRanged levels.now rows cols }
     ensures rows { IfOk result (λ blacks. blacks.rows ≡ rows) }
     ensures cols { IfOk result (λ blacks. blacks.cols ≡ cols) }

@@ -1,6 +1,7 @@
 -- The black levels that a stage holds: this project's own.
 use Rattle.std.specs.Prelude.{◌≡◌, ℕ, ◌<◌, ℤ, List}
-use Rattle.linearise.specs.Blacks.{area_of, black_by}
+use Rattle.linearise.specs.Blacks.{area_of}
+use Rattle.linearise.specs.inner.Blacks.{black_by}
 use Rattle.linearise.specs.declared.blacks.Blacks.{Blacks}
 
 -- the black level at row r, column c
