@@ -45,7 +45,7 @@ pub fn read_active(dirs: &Directories<'_>, shape: Shape) -> Result<Rect, FrameFa
     Ok(active)
 }
 
-// Top, left, bottom, right.
+/// Top, left, bottom, right.
 fn read_rect(edges: &Whole<'_>) -> Rect
     requires { 4 ≤ length edges.now }
     ensures { result ≡ rect_in edges.now }
@@ -58,7 +58,7 @@ fn read_rect(edges: &Whole<'_>) -> Rect
     }
 }
 
-// Whether a rectangle has a pixel.
+/// Whether a rectangle has a pixel.
 fn has_pixels(rect: Rect) -> bool
     ensures { result ≡ has_pixels rect }
 {
@@ -106,7 +106,7 @@ pub fn read_crop(dirs: &Directories<'_>, rows: u32, cols: u32) -> Result<Rect, F
     Ok(crop)
 }
 
-// A place or a size that was found, or its default.
+/// A place or a size that was found, or its default.
 fn extent_or(found: Option<Extent>, default: Extent) -> Extent
     ensures value { result ≡ unwrap_or found default }
     ensures below { (limit : ℕ) → IfSome found (IsBelow limit) → IsBelow limit default → IsBelow limit result }
@@ -117,7 +117,7 @@ fn extent_or(found: Option<Extent>, default: Extent) -> Extent
     }
 }
 
-// A pair of numbers under a tag, rounded down, if the tag is there.
+/// A pair of numbers under a tag, rounded down, if the tag is there.
 #[tactic(auto, unfolding(crate::specs::Area::extent_of))]
 fn read_extent(dirs: &Directories<'_>, tag: Tag) -> Result<Option<Extent>, FrameFault>
     requires kinds { IsTrue (are_fractions (rule_of tag).kinds) }
@@ -132,7 +132,7 @@ fn read_extent(dirs: &Directories<'_>, tag: Tag) -> Result<Option<Extent>, Frame
     }
 }
 
-// A pair of fractions rounded down, across and down.
+/// A pair of fractions rounded down, across and down.
 fn rounded_down(pair: &Fractions<'_>) -> Result<Extent, FrameFault>
     requires { 2 ≤ length pair.now }
     ensures answer { result ≡ extent_in pair.now }
@@ -149,7 +149,7 @@ fn rounded_down(pair: &Fractions<'_>) -> Result<Extent, FrameFault>
     Ok(Extent { across, down })
 }
 
-// A fraction rounded down.
+/// A fraction rounded down.
 #[tactic(auto, using(crate::proofs::AreaLemmas::quotient_low, crate::proofs::AreaLemmas::quotient_high))]
 fn quotient(numerator: i64, denominator: i64) -> i64
     requires numerator { IsOf32Bits numerator }
@@ -162,7 +162,7 @@ fn quotient(numerator: i64, denominator: i64) -> i64
     numerator.div_euclid(denominator)
 }
 
-// What a plane has from an origin on.
+/// What a plane has from an origin on.
 fn rest_of(rows: u32, cols: u32, origin: Extent) -> Extent
     requires rows { rows ≤ 8192 }
     requires cols { cols ≤ 8192 }
@@ -175,7 +175,7 @@ fn rest_of(rows: u32, cols: u32, origin: Extent) -> Extent
     Extent { across, down }
 }
 
-// The pixels of a plane that a crop has.
+/// The pixels of a plane that a crop has.
 fn crop_rect(rows: u32, cols: u32, origin: Extent, size: Extent) -> Rect
     requires origin { IsBelow (2 ^ 33) origin }
     requires size { IsBelow (2 ^ 34) size }
@@ -193,7 +193,7 @@ fn crop_rect(rows: u32, cols: u32, origin: Extent, size: Extent) -> Rect
     }
 }
 
-// Where a part of a length begins and ends.
+/// Where a part of a length begins and ends.
 fn edges(length: u32, from: i64, size: i64) -> (u32, u32)
     requires from_low { neg_ℤ (pos (2 ^ 33)) ≤ℤ from }
     requires from_high { from ≤ℤ pos (2 ^ 33) }
@@ -207,7 +207,7 @@ fn edges(length: u32, from: i64, size: i64) -> (u32, u32)
     (held_within(length, from), held_within(length, end))
 }
 
-// An edge held within a length.
+/// An edge held within a length.
 fn held_within(length: u32, edge: i64) -> u32
     ensures value { result ≡ held_within length edge }
     ensures within { result ≤ length }

@@ -74,7 +74,7 @@ pub fn read_levels(
     Ok(levels)
 }
 
-// The size of the pattern of black levels.
+/// The size of the pattern of black levels.
 #[tactic(auto, unfolding(crate::specs::Black::repeat_of))]
 fn read_repeat(dirs: &Directories<'_>) -> Result<Repeat, FrameFault>
     ensures answer { result ≡ repeat_of dirs.now }
@@ -94,7 +94,7 @@ fn read_repeat(dirs: &Directories<'_>) -> Result<Repeat, FrameFault>
     Ok(repeat)
 }
 
-// As many levels as are wanted; where the tag is absent, `zeros` zeros.
+/// As many levels as are wanted; where the tag is absent, `zeros` zeros.
 #[tactic(auto, unfolding(crate::specs::Black::levels_under))]
 fn read_list(
     alloc: Global,
@@ -114,7 +114,7 @@ fn read_list(
     }
 }
 
-// As many levels as are wanted.
+/// As many levels as are wanted.
 fn levels_in(alloc: Global, fractions: &Fractions<'_>, count: u32) -> Result<Items<i32>, FrameFault>
     ensures answer { Answers result (levels_or count 0 (Some fractions.now)) }
     ensures within { IfOk result (AreWithin 16777216) }
@@ -130,7 +130,7 @@ fn levels_in(alloc: Global, fractions: &Fractions<'_>, count: u32) -> Result<Ite
     Ok(Items::from_vec(levels))
 }
 
-// This many zeros.
+/// This many zeros.
 fn zero_levels(alloc: Global, count: u32) -> Result<Vec<i32>, FrameFault>
     ensures ok { IfOk result (λ levels. levels.items ≡ replicate count (pos 0)) }
     ensures err { IfErr result (λ fault. fault ≡ MemoryFault) }
@@ -141,7 +141,7 @@ fn zero_levels(alloc: Global, count: u32) -> Result<Vec<i32>, FrameFault>
     }
 }
 
-// The white level, which is the greatest sample of the depth where the tag is absent.
+/// The white level, which is the greatest sample of the depth where the tag is absent.
 #[tactic(auto, unfolding(crate::specs::Black::white_of))]
 fn read_white(dirs: &Directories<'_>, depth: u32) -> Result<u32, FrameFault>
     requires { depth ≤ 16 }

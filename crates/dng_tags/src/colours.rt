@@ -54,7 +54,7 @@ pub fn read_colour(dirs: &Directories<'_>) -> Result<Colour, FrameFault>
     })
 }
 
-// The refusal of a colour tag.
+/// The refusal of a colour tag.
 fn colour_fault(tag: Tag) -> FrameFault
     ensures { result ≡ colour_fault tag }
 {
@@ -63,7 +63,7 @@ fn colour_fault(tag: Tag) -> FrameFault
     }
 }
 
-// The fractions of a colour tag in 65536ths.
+/// The fractions of a colour tag in 65536ths.
 fn read_entries<const N: usize>(tag: Tag, fractions: &Fractions<'_>) -> Result<[i32; N], FrameFault>
     requires { length fractions.now ≡ N }
     ensures answer { result ≡ colours_in tag fractions.now }
@@ -76,7 +76,7 @@ fn read_entries<const N: usize>(tag: Tag, fractions: &Fractions<'_>) -> Result<[
     Ok(entries)
 }
 
-// A matrix by rows, if the tag is there.
+/// A matrix by rows, if the tag is there.
 #[tactic(auto, unfolding(crate::specs::Colours::matrix_of))]
 fn read_matrix(dirs: &Directories<'_>, tag: Tag) -> Result<Option<[i32; 9]>, FrameFault>
     requires kinds { IsTrue (are_fractions (rule_of tag).kinds) }
@@ -91,7 +91,7 @@ fn read_matrix(dirs: &Directories<'_>, tag: Tag) -> Result<Option<[i32; 9]>, Fra
     }
 }
 
-// The diagonal of a camera's calibration, which is ones where the tag is absent.
+/// The diagonal of a camera's calibration, which is ones where the tag is absent.
 #[tactic(auto, unfolding(crate::specs::Colours::calibration_of))]
 fn read_calibration(dirs: &Directories<'_>, tag: Tag) -> Result<[i32; 3], FrameFault>
     requires kinds { IsTrue (are_fractions (rule_of tag).kinds) }
@@ -109,7 +109,7 @@ fn read_calibration(dirs: &Directories<'_>, tag: Tag) -> Result<[i32; 3], FrameF
     Ok([entries[0], entries[4], entries[8]])
 }
 
-// Whether a matrix of 3 by 3 has zeros off the diagonal.
+/// Whether a matrix of 3 by 3 has zeros off the diagonal.
 #[tactic(auto, unfolding(crate::specs::Colours::is_diagonal))]
 fn is_diagonal(fractions: &Fractions<'_>) -> bool
     requires { length fractions.now ≡ 9 }
@@ -118,7 +118,7 @@ fn is_diagonal(fractions: &Fractions<'_>) -> bool
     has_zeros(fractions, 1) && has_zeros(fractions, 5)
 }
 
-// Whether three numerators in a row are 0.
+/// Whether three numerators in a row are 0.
 fn has_zeros(fractions: &Fractions<'_>, from: u32) -> bool
     requires length { length fractions.now ≡ 9 }
     requires within { from ≤ 6 }
@@ -135,7 +135,7 @@ fn is_zero(n: i64) -> bool
     n.unsigned_abs() == 0
 }
 
-// The analog balance, which is ones where the tag is absent.
+/// The analog balance, which is ones where the tag is absent.
 #[tactic(auto, unfolding(crate::specs::Colours::analog_of))]
 fn read_analog(dirs: &Directories<'_>) -> Result<[i32; 3], FrameFault>
     ensures { result ≡ analog_of dirs.now }
@@ -156,7 +156,7 @@ fn are_positive(entries: &[i32]) -> bool
     entries.iter().all(|entry| 0 < *entry)
 }
 
-// The gains of the three channels, which are one where the neutral is absent.
+/// The gains of the three channels, which are one where the neutral is absent.
 #[tactic(auto, unfolding(crate::specs::Colours::gains_of))]
 fn read_gains(dirs: &Directories<'_>) -> Result<[u32; 3], FrameFault>
     ensures answer { result ≡ gains_of dirs.now }
@@ -169,7 +169,7 @@ fn read_gains(dirs: &Directories<'_>) -> Result<[u32; 3], FrameFault>
     }
 }
 
-// The gains that turn the neutral into equal channels.
+/// The gains that turn the neutral into equal channels.
 fn gains_in(neutral: &Fractions<'_>) -> Result<[u32; 3], FrameFault>
     requires { length neutral.now ≡ 3 }
     ensures answer { result ≡ gains_in (Some neutral.now) }
@@ -183,7 +183,7 @@ fn gains_in(neutral: &Fractions<'_>) -> Result<[u32; 3], FrameFault>
     Ok(gains)
 }
 
-// The gain of each channel. Whether each has one.
+/// The gain of each channel. Whether each has one.
 fn fill_gains(neutral: &Fractions<'_>, gains: &mut [u32]) -> bool
     requires green { 2 ≤ length neutral.now }
     requires room { length gains.old ≡ length neutral.now }
@@ -203,7 +203,7 @@ fn fill_gains(neutral: &Fractions<'_>, gains: &mut [u32]) -> bool
     true
 }
 
-// The gain of a channel in 4096ths, if it has one.
+/// The gain of a channel in 4096ths, if it has one.
 #[tactic(auto, unfolding(crate::specs::Colours::has_gain))]
 fn gain(green: (i64, i64), channel: (i64, i64)) -> Option<u32>
     requires green_above { IsOf32Bits green.0 }
@@ -224,7 +224,7 @@ fn gain(green: (i64, i64), channel: (i64, i64)) -> Option<u32>
     }
 }
 
-// Whether a number of the neutral is positive.
+/// Whether a number of the neutral is positive.
 #[tactic(auto, unfolding(crate::specs::Colours::is_positive))]
 fn is_positive(fraction: (i64, i64)) -> bool
     ensures value { result ≡ is_positive fraction }
@@ -234,7 +234,7 @@ fn is_positive(fraction: (i64, i64)) -> bool
     0 < fraction.0 && 0 < fraction.1
 }
 
-// The gain of a channel in 4096ths: green over the channel, rounded.
+/// The gain of a channel in 4096ths: green over the channel, rounded.
 #[tactic(auto, unfolding(crate::specs::Colours::gain_of))]
 fn rounded_gain(green: (i64, i64), channel: (i64, i64)) -> u128
     requires green_above { IsOf32Bits green.0 }
@@ -250,7 +250,7 @@ fn rounded_gain(green: (i64, i64), channel: (i64, i64)) -> u128
     (2 * 4096 * above + below) / (2 * below)
 }
 
-// The product of two numbers of at most 2^32.
+/// The product of two numbers of at most 2^32.
 fn product(one: u64, other: u64) -> u128
     requires one { one ≤ 2 ^ 32 }
     requires other { other ≤ 2 ^ 32 }

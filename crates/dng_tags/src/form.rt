@@ -59,7 +59,7 @@ pub fn read_form(dirs: &Directories<'_>) -> Result<Form, FrameFault>
     })
 }
 
-// The samples of a colour filter array.
+/// The samples of a colour filter array.
 #[tactic(auto, unfolding(crate::specs::Form::photometric_of))]
 fn check_photometric(dirs: &Directories<'_>) -> Result<u32, FrameFault>
     ensures { result ≡ photometric_of dirs.now }
@@ -71,7 +71,7 @@ fn check_photometric(dirs: &Directories<'_>) -> Result<u32, FrameFault>
     Ok(v)
 }
 
-// Whether the segments are lossless JPEG streams.
+/// Whether the segments are lossless JPEG streams.
 #[tactic(auto, unfolding(crate::specs::Form::lossless_of))]
 fn read_lossless(dirs: &Directories<'_>) -> Result<bool, FrameFault>
     ensures { result ≡ lossless_of dirs.now }
@@ -83,7 +83,7 @@ fn read_lossless(dirs: &Directories<'_>) -> Result<bool, FrameFault>
     Ok(v == LOSSLESS_JPEG)
 }
 
-// One sample a pixel.
+/// One sample a pixel.
 #[tactic(auto, unfolding(crate::specs::Form::samples_per_pixel_of))]
 fn check_samples(dirs: &Directories<'_>) -> Result<u32, FrameFault>
     ensures { result ≡ samples_per_pixel_of dirs.now }
@@ -95,7 +95,7 @@ fn check_samples(dirs: &Directories<'_>) -> Result<u32, FrameFault>
     Ok(v)
 }
 
-// The bits of a sample.
+/// The bits of a sample.
 #[tactic(auto, unfolding(crate::specs::Form::depth_of))]
 fn read_depth(dirs: &Directories<'_>) -> Result<u32, FrameFault>
     ensures answer { result ≡ depth_of dirs.now }
@@ -108,7 +108,7 @@ fn read_depth(dirs: &Directories<'_>) -> Result<u32, FrameFault>
     Ok(v)
 }
 
-// Unsigned whole numbers.
+/// Unsigned whole numbers.
 #[tactic(auto, unfolding(crate::specs::Form::format_of))]
 fn check_format(dirs: &Directories<'_>) -> Result<u32, FrameFault>
     ensures { result ≡ format_of dirs.now }
@@ -120,7 +120,7 @@ fn check_format(dirs: &Directories<'_>) -> Result<u32, FrameFault>
     Ok(v)
 }
 
-// The rows and columns.
+/// The rows and columns.
 #[tactic(auto, unfolding(crate::specs::Form::shape_of))]
 fn read_shape(dirs: &Directories<'_>) -> Result<Shape, FrameFault>
     ensures answer { result ≡ shape_of dirs.now }
@@ -138,7 +138,7 @@ fn read_shape(dirs: &Directories<'_>) -> Result<Shape, FrameFault>
     })
 }
 
-// The rows or the columns.
+/// The rows or the columns.
 #[tactic(auto, unfolding(crate::specs::Form::side_of))]
 fn read_side(dirs: &Directories<'_>, tag: Tag) -> Result<u32, FrameFault>
     requires whole { IsTrue (are_whole (rule_of tag).kinds) }

@@ -41,7 +41,7 @@ pub fn read_frame(alloc: Global, bytes: &[u8]) -> Result<Frame, FrameFault>
     read_record(alloc, &dirs)
 }
 
-// The record of a file with a raw image's directory.
+/// The record of a file with a raw image's directory.
 #[tactic(auto, unfolding(crate::specs::Frame::record_of))]
 fn read_record(alloc: Global, dirs: &Directories<'_>) -> Result<Frame, FrameFault>
     ensures answer { Answers result (record_of dirs.now) }

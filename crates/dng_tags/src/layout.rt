@@ -37,7 +37,7 @@ pub struct Cut {
 }
 
 impl Cut {
-    // How many segments stand side by side.
+    /// How many segments stand side by side.
     fn across(self, shape: Shape) -> u32
         requires shape { IsRawShape shape }
         requires sides { HasSides self }
@@ -46,7 +46,7 @@ impl Cut {
         parts(shape.cols, self.cols)
     }
 
-    // How many segments there are.
+    /// How many segments there are.
     fn count(self, shape: Shape) -> u64
         requires shape { IsRawShape shape }
         requires sides { HasSides self }
@@ -55,7 +55,7 @@ impl Cut {
         u64::from(parts(shape.rows, self.rows)) * u64::from(self.across(shape))
     }
 
-    // The pixels of segment k.
+    /// The pixels of segment k.
     #[tactic(auto, using(crate::proofs::LayoutLemmas::top_within), unfolding(crate::specs::Layout::rect_at))]
     fn rect(self, shape: Shape, k: u32) -> Rect
         requires shape { IsRawShape shape }
@@ -76,7 +76,7 @@ impl Cut {
     }
 }
 
-// How many parts of a size make up a length.
+/// How many parts of a size make up a length.
 fn parts(length: u32, size: u32) -> u32
     requires length { length ≤ 8192 }
     requires some { 1 ≤ size }
@@ -96,7 +96,7 @@ pub struct Layout<'a> {
 }
 
 impl<'a> Layout<'a> {
-    // A layout that isn't too large, with an offset and a byte count for each segment.
+    /// A layout that isn't too large, with an offset and a byte count for each segment.
     #[tactic(auto, unfolding(crate::specs::Layout::checked_layout))]
     fn checked(self, shape: Shape) -> Result<Layout<'a>, FrameFault>
         requires shape { IsRawShape shape }
@@ -116,7 +116,7 @@ impl<'a> Layout<'a> {
         Ok(self)
     }
 
-    // Segment k.
+    /// Segment k.
     #[tactic(auto, unfolding(crate::specs::Layout::segment_at, crate::specs::Layout::rect_at))]
     fn segment(&self, shape: Shape, k: u32) -> Segment
         requires shape { IsRawShape shape }
@@ -139,7 +139,7 @@ impl<'a> Layout<'a> {
         }
     }
 
-    // The segments.
+    /// The segments.
     #[tactic(auto, using(crate::proofs::LayoutLemmas::segments_more), unfolding(crate::specs::Layout::segments_in))]
     fn segments(&self, alloc: Global, shape: Shape) -> Result<Items<Segment>, FrameFault>
         requires shape { IsRawShape shape }
@@ -182,7 +182,7 @@ pub fn read_segments(
     }
 }
 
-// The number of the first segment that passes the end of a file of this many bytes.
+/// The number of the first segment that passes the end of a file of this many bytes.
 fn first_outside(segments: &Items<Segment>, file_len: u64) -> Option<usize>
     ensures answer { result ≡ position (passes_end file_len) segments.now }
     ensures some { IfSome result (λ k. k < length segments.now) }
@@ -205,7 +205,7 @@ fn read_layout<'a>(dirs: &Directories<'a>, shape: Shape) -> Result<Layout<'a>, F
     layout.checked(shape)
 }
 
-// Tiles, whose width was found.
+/// Tiles, whose width was found.
 #[tactic(auto, unfolding(crate::specs::Layout::tiles_of))]
 fn read_tiles<'a>(dirs: &Directories<'a>, width: u32) -> Result<Layout<'a>, FrameFault>
     ensures answer { result ≡ tiles_of dirs.now width }
@@ -227,7 +227,7 @@ fn read_tiles<'a>(dirs: &Directories<'a>, width: u32) -> Result<Layout<'a>, Fram
     })
 }
 
-// A side of a tile.
+/// A side of a tile.
 #[tactic(auto, unfolding(crate::specs::Layout::checked_tile_side))]
 fn tile_side(side: u32) -> Result<u32, FrameFault>
     ensures answer { result ≡ checked_tile_side side }
@@ -260,7 +260,7 @@ fn read_strips<'a>(dirs: &Directories<'a>, shape: Shape) -> Result<Layout<'a>, F
     })
 }
 
-// The rows of a strip, which are those of the image where the tag is absent.
+/// The rows of a strip, which are those of the image where the tag is absent.
 #[tactic(auto, unfolding(crate::specs::Layout::strip_rows_of))]
 fn read_strip_rows(dirs: &Directories<'_>, shape: Shape) -> Result<u32, FrameFault>
     requires { IsRawShape shape }

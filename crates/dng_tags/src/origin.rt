@@ -15,7 +15,7 @@ pub struct Version {
 }
 
 impl Version {
-    // The first two of a version's four numbers.
+    /// The first two of a version's four numbers.
     fn read(numbers: &Whole<'_>) -> Version
         requires { 1 < length numbers.now }
         ensures { result ≡ version_in numbers.now }
@@ -26,7 +26,7 @@ impl Version {
         }
     }
 
-    // Whether it is later than 1.6.
+    /// Whether it is later than 1.6.
     fn is_newer(self) -> bool
         ensures { result ≡ is_newer self }
     {
@@ -47,7 +47,7 @@ pub fn open(bytes: &[u8]) -> Result<Tiff<'_>, FrameFault>
     refuse(Tiff::open(bytes))
 }
 
-// A fault of a file or a directory as a frame's.
+/// A fault of a file or a directory as a frame's.
 fn refuse<T>(found: Result<T, TiffFault>) -> Result<T, FrameFault>
     ensures { result ≡ refusing found }
 {
@@ -84,7 +84,7 @@ fn read_version<'a>(tiff: &'a Tiff<'a>) -> Result<Version, FrameFault>
     }
 }
 
-// The version that a reader needs, which is the file's own where the tag is absent.
+/// The version that a reader needs, which is the file's own where the tag is absent.
 #[tactic(auto, unfolding(crate::specs::Origin::needed_version_of))]
 fn check_needed_version<'a>(tiff: &'a Tiff<'a>, version: Version) -> Result<Version, FrameFault>
     ensures { result ≡ needed_version_of tiff.now version }
@@ -99,7 +99,7 @@ fn check_needed_version<'a>(tiff: &'a Tiff<'a>, version: Version) -> Result<Vers
     Ok(needed)
 }
 
-// NewSubFileType of a directory.
+/// NewSubFileType of a directory.
 #[tactic(auto, unfolding(crate::specs::Origin::subfile_type_at))]
 fn subfile_type<'a>(tiff: &'a Tiff<'a>, dir: &Dir<'_>) -> Result<u32, FrameFault>
     ensures { result ≡ subfile_type_at tiff.now dir.now }
@@ -110,7 +110,7 @@ fn subfile_type<'a>(tiff: &'a Tiff<'a>, dir: &Dir<'_>) -> Result<u32, FrameFault
     }
 }
 
-// The first directory of the raw image, among directory 0 and its SubIFDs.
+/// The first directory of the raw image, among directory 0 and its SubIFDs.
 #[tactic(auto, unfolding(crate::specs::Origin::raw_directory_of))]
 fn raw_directory<'a>(tiff: &'a Tiff<'a>) -> Result<Dir<'a>, FrameFault>
     ensures { result ≡ raw_directory_of tiff.now }
@@ -125,7 +125,7 @@ fn raw_directory<'a>(tiff: &'a Tiff<'a>) -> Result<Dir<'a>, FrameFault>
     }
 }
 
-// The first directory of the raw image, among those at these offsets.
+/// The first directory of the raw image, among those at these offsets.
 #[tactic(auto, using(crate::proofs::OriginLemmas::first_raw_step, crate::proofs::OriginLemmas::first_raw_end))]
 fn first_raw<'a>(tiff: &'a Tiff<'a>, offsets: &Whole<'_>) -> Result<Dir<'a>, FrameFault>
     ensures { result ≡ first_raw tiff.now offsets.now }

@@ -30,7 +30,7 @@ pub fn read_pattern(dirs: &Directories<'_>) -> Result<[u8; 4], FrameFault>
     Ok(cfa)
 }
 
-// A pattern of 2 by 2.
+/// A pattern of 2 by 2.
 #[tactic(auto, unfolding(crate::specs::Pattern::pattern_size_of))]
 fn check_pattern_size<'a>(dirs: &Directories<'a>) -> Result<Whole<'a>, FrameFault>
     ensures { result ≡ pattern_size_of dirs.now }
@@ -42,7 +42,7 @@ fn check_pattern_size<'a>(dirs: &Directories<'a>) -> Result<Whole<'a>, FrameFaul
     Ok(dims)
 }
 
-// One of the four patterns.
+/// One of the four patterns.
 #[tactic(auto, unfolding(crate::specs::Pattern::colours_of))]
 fn read_colours(dirs: &Directories<'_>) -> Result<[u8; 4], FrameFault>
     ensures answer { result ≡ colours_of dirs.now }
@@ -55,7 +55,7 @@ fn read_colours(dirs: &Directories<'_>) -> Result<[u8; 4], FrameFault>
     }
 }
 
-// The pattern of these four colours, if it is accepted.
+/// The pattern of these four colours, if it is accepted.
 fn known_pattern(colours: &Whole<'_>) -> Option<[u8; 4]>
     requires { 4 ≤ length colours.now }
     ensures answer { result ≡ find (λ pattern. is_same_pattern pattern colours.now) patterns }
@@ -67,7 +67,7 @@ fn known_pattern(colours: &Whole<'_>) -> Option<[u8; 4]>
         .find(|pattern| is_pattern(pattern, colours))
 }
 
-// Whether the colours are those of a pattern.
+/// Whether the colours are those of a pattern.
 fn is_pattern(pattern: &[u8; 4], colours: &Whole<'_>) -> bool
     requires { 4 ≤ length colours.now }
     ensures { result ≡ is_same_pattern pattern.now colours.now }
@@ -78,7 +78,7 @@ fn is_pattern(pattern: &[u8; 4], colours: &Whole<'_>) -> bool
         && u32::from(pattern[3]) == colours.at(3)
 }
 
-// Planes of red, green and blue, in this order.
+/// Planes of red, green and blue, in this order.
 #[tactic(auto, unfolding(crate::specs::Pattern::has_plane_colours))]
 fn check_plane_colours(dirs: &Directories<'_>) -> Result<bool, FrameFault>
     ensures { result ≡ has_plane_colours dirs.now }
@@ -98,7 +98,7 @@ fn are_red_green_blue(colours: &Whole<'_>) -> bool
     colours.at(0) == 0 && colours.at(1) == 1 && colours.at(2) == 2
 }
 
-// Squares in rows and columns.
+/// Squares in rows and columns.
 #[tactic(auto, unfolding(crate::specs::Pattern::has_square_layout))]
 fn check_layout(dirs: &Directories<'_>) -> Result<bool, FrameFault>
     ensures { result ≡ has_square_layout dirs.now }

@@ -40,7 +40,7 @@ pub fn greatest_black(levels: &Levels, rows: u32, cols: u32) -> i64
     most
 }
 
-// The greatest black level of the rows that fall on one row of the pattern.
+/// The greatest black level of the rows that fall on one row of the pattern.
 #[tactic(auto, using(crate::proofs::SpanLemmas::greatest_more, crate::proofs::SpanLemmas::greatest_first, crate::proofs::SpanLemmas::rows_greatest))]
 fn greatest_in_rows(levels: &Levels, i: u32, rows: u32, cols: u32) -> i64
     requires rows { rows ≤ 8192 }
@@ -61,7 +61,7 @@ fn greatest_in_rows(levels: &Levels, i: u32, rows: u32, cols: u32) -> i64
     most + i64::from(down)
 }
 
-// The greatest of the pattern's black level at a place and what the columns add that fall on it.
+/// The greatest of the pattern's black level at a place and what the columns add that fall on it.
 fn greatest_of_place(levels: &Levels, i: u32, j: u32, cols: u32) -> i64
     requires pattern { IsBlackPattern levels.now }
     requires deltas { AreDeltas levels.now.delta_h cols }
@@ -78,7 +78,7 @@ fn greatest_of_place(levels: &Levels, i: u32, j: u32, cols: u32) -> i64
     i64::from(black) + i64::from(across)
 }
 
-// The pattern's black level at a place.
+/// The pattern's black level at a place.
 fn black_of_place(levels: &Levels, i: u32, j: u32) -> i32
     requires pattern { IsBlackPattern levels.now }
     requires row { i < levels.now.black_rows }
@@ -90,7 +90,7 @@ fn black_of_place(levels: &Levels, i: u32, j: u32) -> i32
     levels.black.as_slice()[(i * levels.black_cols + j) as usize]
 }
 
-// The greatest of the numbers at the places that are `first` modulo `step`; 0 where there are none.
+/// The greatest of the numbers at the places that are `first` modulo `step`; 0 where there are none.
 fn greatest_delta(deltas: &Items<i32>, first: u32, step: u32, count: u32) -> i32
     requires place { first < step }
     requires some { first < count }
@@ -121,7 +121,7 @@ fn greatest_on(deltas: &[i32], first: u32, step: u32, count: u32) -> i32
     deltas[at]
 }
 
-// Where the greater number stands, at a place or at `k` if that falls on `first` modulo `step`.
+/// Where the greater number stands, at a place or at `k` if that falls on `first` modulo `step`.
 fn greater_on(deltas: &[i32], first: u32, step: u32, at: usize, k: usize) -> usize
     requires some { 0 < step }
     requires at { at < length deltas.now }

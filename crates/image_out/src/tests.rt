@@ -1,3 +1,5 @@
+//! Heads, reply lines and samples as bytes, and the piece that is written next.
+
 use super::{
     Piece, TIFF_HEAD, pixel_bytes, pixmap_head, ppm_head, reply_head, reply_line, tiff_head,
 };

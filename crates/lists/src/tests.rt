@@ -1,18 +1,19 @@
-// Lists of numbers, of pairs, of plain structs and of structs with a model, and a struct that holds lists.
+//! Lists of numbers, of pairs, of plain structs and of structs with a model, and a struct that holds lists.
+
 ghost use Rattle.std.specs.Prelude.{◌≡◌, ◌↔◌, IsTrue};
 ghost use Rattle.std.specs.Bool.{Decides};
 
 use super::*;
 use std::test::Fail;
 
-// A part of a file.
+/// A part of a file.
 #[derive(Clone, Copy, Debug, PartialEq, Eq)]
 pub struct Segment {
     pub at: u32,
     pub length: u32,
 }
 
-// A number seen as itself.
+/// A number seen as itself.
 #[derive(Clone, Copy, Debug, PartialEq, Eq)]
 pub struct Level {
     level: i32,
@@ -28,7 +29,7 @@ impl Model for Level {
     ghost inverse = { λ level. record { level = level } };
 }
 
-// Something that holds lists.
+/// Something that holds lists.
 #[derive(Debug, Drop, PartialEq, Eq)]
 pub struct Frame {
     pub depth: u16,
@@ -37,7 +38,7 @@ pub struct Frame {
     pub levels: Items<Level>,
 }
 
-// Contracts see the fields as lists.
+/// Contracts see the fields as lists.
 fn made_frame(depth: u16, table: Vec<u16>, segments: Vec<Segment>, levels: Vec<Level>) -> Frame
     ensures { result ≡ record { depth = depth; table = table.items; segments = segments.items; levels = levels.items } }
 {
@@ -49,7 +50,7 @@ fn made_frame(depth: u16, table: Vec<u16>, segments: Vec<Segment>, levels: Vec<L
     }
 }
 
-// Where the elements' comparison tells all elements apart, that of the lists tells all lists apart.
+/// Where the elements' comparison tells all elements apart, that of the lists tells all lists apart.
 fn same_lists<T: PartialEq>(a: &Items<T>, b: &Items<T>) -> bool
     requires { (x y : T) → Decides (T.eq x y) (x ≡ y) }
     ensures { Decides result (a.now ≡ b.now) }

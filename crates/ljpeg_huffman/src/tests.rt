@@ -1,3 +1,5 @@
+//! Tables of code words, and differences that bits spell by them.
+
 ghost use Rattle.std.specs.Prelude.{◌≡◌, sum};
 ghost use Rattle.ljpeg_huffman.specs.Words.{IsPrefixFree};
 

@@ -133,7 +133,7 @@ impl fmt::Display for OpcodeFault {
                     "opcode {index}, with the ID {id}, has parameters that can't be run"
                 )
             }
-            OpcodeFault::Memory => write!(f, "memory ran out"),
+            OpcodeFault::Memory => write!(f, "out of memory"),
         }
     }
 }

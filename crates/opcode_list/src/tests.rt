@@ -1,5 +1,6 @@
-// Lists that are put together from opcodes, and what DNG 1.6 and this project's limits say of them. All parameters are
-// written as 32-bit words.
+//! Lists that are put together from opcodes, and what DNG 1.6 and this project's limits say of them. All parameters are
+//! written as 32-bit words.
+
 use super::*;
 use lists::Items;
 use plane_view::Rect;
@@ -7,7 +8,7 @@ use std::alloc::{AllocError, Global};
 use std::test::Fail;
 use text_line::Line;
 
-// An opcode that is written: `len` is how many bytes of parameters it announces.
+/// An opcode that is written: `len` is how many bytes of parameters it announces.
 #[derive(Clone, Copy)]
 struct TestOpcode<'a> {
     id: u32,
@@ -17,18 +18,18 @@ struct TestOpcode<'a> {
     params: &'a [u32],
 }
 
-// Constant 9, phase 1.
+/// Constant 9, phase 1.
 const CONSTANT: [u32; 2] = [9, 1];
 
-// Phase 2, the point 3 4 and the rectangle 5 6 7 8.
+/// Phase 2, the point 3 4 and the rectangle 5 6 7 8.
 const LIST: [u32; 9] = [2, 1, 1, 3, 4, 5, 6, 7, 8];
 
 const TRIM: [u32; 4] = [1, 0, 8, 9];
 
-// A rectangle, plane 0, planes 1, pitches 2 and 3, and the entries 5 and 7.
+/// A rectangle, plane 0, planes 1, pitches 2 and 3, and the entries 5 and 7.
 const MAP: [u32; 10] = [1, 0, 8, 9, 0, 1, 2, 3, 2, 0x0005_0007];
 
-// An opcode of the version 1.3 with flags 0.
+/// An opcode of the version 1.3 with flags 0.
 fn told(id: u32, len: u32, params: &[u32]) -> TestOpcode<'_> {
     TestOpcode {
         id,
@@ -39,7 +40,7 @@ fn told(id: u32, len: u32, params: &[u32]) -> TestOpcode<'_> {
     }
 }
 
-// The opcode of an ID with the parameters above.
+/// The opcode of an ID with the parameters above.
 fn known(id: u32) -> TestOpcode<'static> {
     match id {
         4 => told(id, 8, &CONSTANT),
@@ -49,7 +50,7 @@ fn known(id: u32) -> TestOpcode<'static> {
     }
 }
 
-// What is read of it.
+/// What is read of it.
 fn opcode(alloc: Global, id: u32) -> Result<Opcode, AllocError> {
     let rect = Rect {
         top: 1,
@@ -85,7 +86,7 @@ fn opcode(alloc: Global, id: u32) -> Result<Opcode, AllocError> {
     })
 }
 
-// The bytes of a list.
+/// The bytes of a list.
 fn bytes_of(alloc: Global, opcodes: &[TestOpcode<'_>]) -> Result<Vec<u8>, AllocError> {
     let count = u32::try_from(opcodes.len()).map_err(|_| AllocError)?;
     let mut bytes = count.to_be_bytes().to_vec(alloc)?;
@@ -102,7 +103,7 @@ fn bytes_of(alloc: Global, opcodes: &[TestOpcode<'_>]) -> Result<Vec<u8>, AllocE
     Ok(bytes)
 }
 
-// What is read of list 1, 2 or 3 with these opcodes.
+/// What is read of list 1, 2 or 3 with these opcodes.
 fn read(alloc: Global, opcodes: &[TestOpcode<'_>], list: u8) -> Result<Items<Opcode>, OpcodeFault> {
     let bytes = bytes_of(alloc, opcodes)?;
     read_list(alloc, &bytes, list.clamp(1, 3))
@@ -198,7 +199,7 @@ fn refuses_opcodes(rt: HostRuntime) {
     }
 }
 
-// IDs, lengths and parameters with which no opcode can be run.
+/// IDs, lengths and parameters with which no opcode can be run.
 fn bad_params() -> [(u32, u32, &'static [u32]); 20] {
     [
         // a length one byte off
@@ -287,7 +288,7 @@ fn reads_within_the_bytes(rt: HostRuntime) -> Result<(), Fail> {
     Ok(())
 }
 
-// Faults, what is said of them in a line, and what is shown to people.
+/// Faults, what is said of them in a line, and what is shown to people.
 fn texts() -> [(OpcodeFault, &'static [u8], &'static [u8]); 7] {
     let (index, id) = (3, 4_294_967_295);
     [
@@ -321,7 +322,7 @@ fn texts() -> [(OpcodeFault, &'static [u8], &'static [u8]); 7] {
             b"BadParams 3 4294967295",
             b"opcode 3, with the ID 4294967295, has parameters that can't be run",
         ),
-        (OpcodeFault::Memory, b"Memory", b"memory ran out"),
+        (OpcodeFault::Memory, b"Memory", b"out of memory"),
     ]
 }
 

@@ -1,3 +1,5 @@
+//! Rectangles, reflection, and parts of planes lent for reading and for writing.
+
 ghost use Rattle.std.specs.Prelude.{◌≡◌};
 
 use super::*;

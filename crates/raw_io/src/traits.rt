@@ -1,4 +1,4 @@
-// What files, sources and sinks are, by what their calls promise.
+//! What files, sources and sinks are, by what their calls promise.
 
 ghost use Rattle.std.specs.Prelude.{◌≡◌, ℕ, ◌<◌, ◌≤◌, List, [], length, take, Option, IfOk, OnOk, OnErr, IfSome};
 ghost use Rattle.raw_io.specs.Outside.{Rises, SameCounts, ReadsAt, Takes, Appends};

@@ -1,3 +1,5 @@
+//! A base whose cells are pixels, fetched cell by cell.
+
 ghost use Rattle.std.specs.Prelude.{◌≡◌, ◌+◌, ◌-◌, ◌^◌, ◌<◌, ◌≤◌, length, map};
 ghost use Rattle.std.specs.List.{range_with_len};
 

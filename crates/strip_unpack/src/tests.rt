@@ -1,9 +1,10 @@
-// Rows that were packed by a script of Python's strings of binary digits, with ones after the last sample of a row.
+//! Rows that were packed by a script of Python's strings of binary digits, with ones after the last sample of a row.
+
 use super::*;
 use std::test::Fail;
 use tiff_dirs::Order;
 
-// Two rows of five samples, and the bytes that spell them.
+/// Two rows of five samples, and the bytes that spell them.
 struct Case {
     depth: u32,
     order: Order,

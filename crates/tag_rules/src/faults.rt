@@ -219,7 +219,7 @@ impl fmt::Display for FrameFault {
 
 impl Error for FrameFault {}
 
-// Appends a name and a number after a space.
+/// Appends a name and a number after a space.
 fn say_number(line: &mut Line, name: &[u8], number: u32)
     requires { length line.old + length name.now + 21 ≤ 128 }
     ensures text { line.new ≡ line.old ++ named name.now number }

@@ -13,7 +13,7 @@ use lists::Items;
 use opcode_list::{Opcode, OpcodeFault, read_list};
 use std::alloc::Global;
 
-// The tag of an opcode list.
+/// The tag of an opcode list.
 fn list_tag(list: u8) -> Tag
     ensures { result ≡ list_tag list }
 {
@@ -45,7 +45,7 @@ impl Directories<'_> {
     }
 }
 
-// The opcodes of a list that is there.
+/// The opcodes of a list that is there.
 fn taken(alloc: Global, bytes: &[u8], list: u8) -> Result<Items<Opcode>, FrameFault>
     requires low { 1 ≤ list }
     requires high { list ≤ 3 }

@@ -48,7 +48,7 @@ impl Scale {
         true
     }
 
-    // A fraction as a number of parts, if it is on the scale.
+    /// A fraction as a number of parts, if it is on the scale.
     #[tactic(auto, unfolding(crate::specs::Quantities::is_on))]
     fn parts_of(self, fraction: (i64, i64)) -> Option<i32>
         requires parts { self.parts ≤ 65536 }
@@ -70,7 +70,7 @@ impl Scale {
         }
     }
 
-    // Whether a number of parts is not beyond the limit.
+    /// Whether a number of parts is not beyond the limit.
     #[tactic(auto, unfolding(crate::specs::Quantities::has))]
     fn has(self, parts: i64) -> bool
         requires { self.most ≤ 2 ^ 30 }
@@ -83,7 +83,7 @@ impl Scale {
     }
 }
 
-// A numerator over a positive denominator as a number of parts, rounded.
+/// A numerator over a positive denominator as a number of parts, rounded.
 #[tactic(auto, unfolding(crate::specs::Quantities::in_parts))]
 fn in_parts(parts: u32, numerator: i64, denominator: i64) -> i64
     requires parts { parts ≤ 65536 }

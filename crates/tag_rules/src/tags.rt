@@ -118,7 +118,7 @@ pub struct Rule {
 /// As many numbers as there can be.
 const ANY: u32 = u32::MAX;
 
-// The rule of a tag whose wrong count is a bad entry.
+/// The rule of a tag whose wrong count is a bad entry.
 fn early(number: u16, home: Home, kinds: Kinds, fewest: u32, most: u32) -> Rule
     ensures { result ≡ early number home kinds fewest most }
 {
@@ -132,7 +132,7 @@ fn early(number: u16, home: Home, kinds: Kinds, fewest: u32, most: u32) -> Rule
     }
 }
 
-// The rule of a later tag of the raw image's directory, where a wrong count has its step's own refusal.
+/// The rule of a later tag of the raw image's directory, where a wrong count has its step's own refusal.
 fn later(number: u16, kinds: Kinds, fewest: u32, most: u32, miscounted: FrameFault) -> Rule
     ensures { result ≡ later number kinds fewest most miscounted }
 {
@@ -146,7 +146,7 @@ fn later(number: u16, kinds: Kinds, fewest: u32, most: u32, miscounted: FrameFau
     }
 }
 
-// The rule of a colour tag, which has one count.
+/// The rule of a colour tag, which has one count.
 fn colour(number: u16, kinds: Kinds, count: u32) -> Rule
     ensures { result ≡ colour number kinds count }
 {

@@ -326,7 +326,7 @@ impl<'a> Directories<'a> {
     }
 }
 
-// The numbers of an entry of 16-bit numbers.
+/// The numbers of an entry of 16-bit numbers.
 #[tactic(auto, using(crate::proofs::ValuesLemmas::numbers_more), unfolding(crate::specs::Values::numbers_in))]
 fn copied<'a>(
     alloc: Global,

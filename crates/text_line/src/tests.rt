@@ -1,3 +1,5 @@
+//! Lines that are put together from words and numbers.
+
 ghost use Rattle.std.specs.Prelude.{◌≤◌, length};
 
 use super::{Line, MAX_LINE};

@@ -36,7 +36,7 @@ pub enum Order {
 
 #[tactic(auto, unfolding(crate::specs::Numbers::number_at))]
 impl Order {
-    // The 16-bit number at a place.
+    /// The 16-bit number at a place.
     fn short(self, bytes: &[u8], place: usize) -> u16
         requires { place + 2 ≤ length bytes.now }
         ensures { result ≡ short_at self bytes.now place }
@@ -47,7 +47,7 @@ impl Order {
         }
     }
 
-    // The 32-bit number at a place.
+    /// The 32-bit number at a place.
     fn long(self, bytes: &[u8], place: usize) -> u32
         requires { place + 4 ≤ length bytes.now }
         ensures { result ≡ long_at self bytes.now place }
@@ -60,7 +60,7 @@ impl Order {
 }
 
 impl Order {
-    // The 16-bit number in two's complement at a place.
+    /// The 16-bit number in two's complement at a place.
     fn signed_short(self, bytes: &[u8], place: usize) -> i64
         requires { place + 2 ≤ length bytes.now }
         ensures value { result ≡ signed_short_at self bytes.now place }
@@ -69,7 +69,7 @@ impl Order {
         self.short(bytes, place).cast_signed().into()
     }
 
-    // The 32-bit number in two's complement at a place.
+    /// The 32-bit number in two's complement at a place.
     fn signed_long(self, bytes: &[u8], place: usize) -> i64
         requires { place + 4 ≤ length bytes.now }
         ensures value { result ≡ signed_long_at self bytes.now place }
@@ -198,7 +198,7 @@ const IFD: u16 = 13;
 /// The bytes of one value of each type, by the type's number (TIFF 6.0, section 2, "Types").
 const KIND_SIZES: [usize; 14] = [0, 1, 1, 2, 4, 8, 1, 1, 2, 4, 8, 4, 8, 4];
 
-// The bytes of one value of a type, 0 where the number is no type.
+/// The bytes of one value of a type, 0 where the number is no type.
 #[tactic(auto, unfolding(crate::specs::Kinds::size_of))]
 fn kind_size(kind: u16) -> usize
     ensures value { result ≡ size_of kind }
@@ -214,7 +214,7 @@ const LITTLE_MARK: [u8; 4] = *b"II*\0";
 
 const BIG_MARK: [u8; 4] = *b"MM\0*";
 
-// The byte order that the file's header tells, if it has one.
+/// The byte order that the file's header tells, if it has one.
 #[tactic(auto, unfolding(crate::specs::Header::has_header, crate::specs::Header::order_of, crate::specs::Header::is_big, crate::specs::Header::is_little))]
 fn header_order(bytes: &[u8]) -> Option<Order>
     ensures order { result ≡ (if has_header bytes.now then Some (order_of bytes.now) else None) }
@@ -234,7 +234,7 @@ fn header_order(bytes: &[u8]) -> Option<Order>
 /// The bytes of an entry in a directory.
 const ENTRY_LEN: usize = 12;
 
-// How many entries the directory at an offset has, if it lies in the file.
+/// How many entries the directory at an offset has, if it lies in the file.
 #[tactic(auto, unfolding(crate::specs::Header::directory_fits, crate::specs::Header::entry_count))]
 fn entry_count(order: Order, bytes: &[u8], at: u32) -> Option<u16>
     requires { order ≡ order_of bytes.now }
@@ -332,7 +332,7 @@ impl<'a> Tiff<'a> {
         self.entry(place).map(Some)
     }
 
-    // Where the first entry with the tag begins, in the directory at an offset.
+    /// Where the first entry with the tag begins, in the directory at an offset.
     fn entry_place(&self, at: u32, tag: u16) -> Option<usize>
         ensures place { option_map (slot_at self.now) result ≡ find (λ slot. slot.tag == tag) (entries self.now at) }
         ensures whole { IfSome result (λ place. place + 12 ≤ length self.now) }
@@ -348,7 +348,7 @@ impl<'a> Tiff<'a> {
         None
     }
 
-    // The entry whose 12 bytes begin at a place.
+    /// The entry whose 12 bytes begin at a place.
     #[tactic(auto, unfolding(crate::specs::Entries::field_or_fault, crate::specs::Entries::field_of, crate::specs::Entries::value_fits, crate::specs::Entries::value_size, crate::specs::Entries::slot_at, crate::specs::Entries::value_place))]
     fn entry(&self, place: usize) -> Result<Entry<'_>, EntryFault>
         requires { place + 12 ≤ length self.now }
@@ -377,7 +377,7 @@ impl<'a> Tiff<'a> {
         }
     }
 
-    // Where the value begins of the entry whose 12 bytes begin at a place.
+    /// Where the value begins of the entry whose 12 bytes begin at a place.
     #[tactic(auto, unfolding(crate::specs::Entries::value_place))]
     fn value_place(&self, place: usize, len: usize) -> usize
         requires { place + 12 ≤ length self.now }

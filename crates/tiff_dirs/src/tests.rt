@@ -1,6 +1,7 @@
-// Made files in both byte orders, whose bytes were packed by a script of Python's `struct`. Directory 0 has an
-// entry of each readable type, an entry that is there twice, and entries with each fault; there is no offset of a
-// next directory.
+//! Made files in both byte orders, whose bytes were packed by a script of Python's `struct`. Directory 0 has an
+//! entry of each readable type, an entry that is there twice, and entries with each fault; there is no offset of a
+//! next directory.
+
 use super::*;
 use std::test::Fail;
 
@@ -46,7 +47,7 @@ const BIG: [u8; 280] = [
     0x00, 0x00, 0x00, 0x05, 0xFF, 0xFF, 0xFF, 0xF9,
 ];
 
-// Number `i` of a tag's value in directory 0.
+/// Number `i` of a tag's value in directory 0.
 fn number_of(tiff: &Tiff<'_>, tag: u16, i: u32) -> Option<u32> {
     match tiff.find(&tiff.first(), tag) {
         Ok(Some(e)) if i < e.count && matches!(e.kind, 1 | 3 | 4 | 13) => Some(tiff.number(&e, i)),
@@ -54,7 +55,7 @@ fn number_of(tiff: &Tiff<'_>, tag: u16, i: u32) -> Option<u32> {
     }
 }
 
-// The same as numerator and denominator.
+/// The same as numerator and denominator.
 fn rational_of(tiff: &Tiff<'_>, tag: u16, i: u32) -> Option<(i64, i64)> {
     match tiff.find(&tiff.first(), tag) {
         Ok(Some(e)) if i < e.count && matches!(e.kind, 3 | 4 | 5 | 8 | 9 | 10) => {
@@ -100,7 +101,7 @@ fn reads_numbers(rt: HostRuntime) -> Result<(), Fail> {
     Ok(())
 }
 
-// An entry that is to be found.
+/// An entry that is to be found.
 fn found(tag: u16, kind: u16, count: u32, value: &[u8]) -> Result<Option<Entry<'_>>, EntryFault> {
     Ok(Some(Entry {
         tag,

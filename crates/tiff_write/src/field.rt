@@ -42,7 +42,7 @@ pub struct Field {
     pub value: Value,
 }
 
-// The numbers of the types (TIFF 6.0, section 2, "Types").
+/// The numbers of the types (TIFF 6.0, section 2, "Types").
 const BYTE: u16 = 1;
 
 const SHORT: u16 = 3;

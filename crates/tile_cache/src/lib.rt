@@ -110,14 +110,14 @@ impl TileCache {
         self.peek(key)
     }
 
-    // The pair of the key, if it is there, comes to the front.
+    /// The pair of the key, if it is there, comes to the front.
     fn bring_to_front(&mut self, key: &Key)
         ensures { self.new ≡ after_get key.now self.old }
     {
         self.cells.promote(key);
     }
 
-    // The samples of a key's cell, if it is held. The order stays.
+    /// The samples of a key's cell, if it is held. The order stays.
     fn peek(&self, key: &Key) -> Option<&[u16]>
         ensures { option_map (λ cell. cell.now) result ≡ lookup (same_key key.now) self.now.pairs }
     {
@@ -172,7 +172,7 @@ impl TileCache {
     }
 }
 
-// Whether one cell more, of so many samples, fits the budget and the slots.
+/// Whether one cell more, of so many samples, fits the budget and the slots.
 fn has_room_for(
     size: u64,
     cells: &LruCache<Key, Vec<u16>>,
@@ -189,7 +189,7 @@ fn has_room_for(
     total + size <= budget && cells.len() < slots as usize
 }
 
-// Drops the last cells until there is room for one more, and answers how many samples are left.
+/// Drops the last cells until there is room for one more, and answers how many samples are left.
 fn make_room(
     cells: &mut LruCache<Key, Vec<u16>>,
     total: u64,

@@ -1,3 +1,5 @@
+//! What a cache holds after cells are put and looked up.
+
 ghost use Rattle.std.specs.Prelude.{◌≡◌};
 ghost use Rattle.tile_cache.specs.Cache.{after_get};
 
@@ -32,7 +34,7 @@ fn put_new(alloc: Global, cache: &mut TileCache, cell: u32, size: usize) -> Resu
     cache.put(key, samples)
 }
 
-// Takes the steps, and compares the cells that are held after each, and how many samples they have.
+/// Takes the steps, and compares the cells that are held after each, and how many samples they have.
 fn take_steps(
     rt: &impl Abort,
     alloc: Global,
@@ -85,7 +87,7 @@ fn holds_only_empty_cells_under_no_budget(rt: HostRuntime) -> Result<(), Fail> {
     Ok(take_steps(&rt, rt.alloc(), cache, &steps)?)
 }
 
-// A caller that looks at a cell and goes on with the cache.
+/// A caller that looks at a cell and goes on with the cache.
 fn first_sample(cache: &mut TileCache, key: &Key) -> Option<u16>
     ensures { cache.new ≡ after_get key.now cache.old }
 {
