@@ -9,6 +9,3 @@ mod matrix_rows;
 
 pub use balance::Balance;
 pub use matrix::Matrix;
-
-#[cfg(test)]
-mod tests;

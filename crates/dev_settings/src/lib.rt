@@ -18,6 +18,3 @@ pub use format::Format;
 pub use line::{MAX_LINE_BYTES, line_text, split_line};
 pub use settings::{Change, MatrixChoice, Settings};
 pub use word::number;
-
-#[cfg(test)]
-mod tests;

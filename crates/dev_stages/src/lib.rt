@@ -6,8 +6,6 @@ mod listed;
 mod matrices;
 mod planning;
 mod stage;
-#[cfg(test)]
-mod tests;
 
 pub use fault::PlanFault;
 pub use planning::{plan, stage_of};

@@ -22,6 +22,3 @@ pub use fault::AnswerFault;
 pub use line::answer;
 pub use program::run;
 pub use status::Status;
-
-#[cfg(test)]
-mod tests;

@@ -12,8 +12,6 @@ mod origin;
 mod pattern;
 mod record;
 mod span;
-#[cfg(test)]
-mod tests;
 
 pub use frame::{MAX_BYTES, read_frame};
 pub use record::{Coding, Colour, Frame, Levels, Segment};

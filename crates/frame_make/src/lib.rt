@@ -11,8 +11,6 @@ ghost use Rattle.frame_make.specs.declared.Make.{Make as AnyMake};
 mod frame;
 mod samples;
 mod strips;
-#[cfg(test)]
-mod tests;
 
 pub use frame::make_frame;
 

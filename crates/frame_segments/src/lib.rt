@@ -4,7 +4,5 @@
 
 mod decoding;
 mod segments;
-#[cfg(test)]
-mod tests;
 
 pub use segments::Segments;

@@ -9,8 +9,6 @@ mod rows;
 mod scale;
 mod settings;
 mod stage;
-#[cfg(test)]
-mod tests;
 
 pub use fault::LineariseFault;
 pub use stage::Linearise;

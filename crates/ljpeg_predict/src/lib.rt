@@ -15,8 +15,6 @@ mod lines;
 mod samples;
 mod scan;
 mod segments;
-#[cfg(test)]
-mod tests;
 mod writer;
 
 pub use encoder::{EncodeFault, decoding_gives_back, encode};

@@ -7,8 +7,6 @@ mod pattern;
 mod planes;
 mod rows;
 mod stage;
-#[cfg(test)]
-mod tests;
 mod windows;
 
 ghost use Rattle.std.specs.Prelude.{◌≡◌};

@@ -10,8 +10,6 @@ mod map_table;
 mod places;
 mod rects;
 mod steps;
-#[cfg(test)]
-mod tests;
 
 pub use crop::Crop;
 pub use fix_constant::FixConstant;

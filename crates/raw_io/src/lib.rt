@@ -1,8 +1,6 @@
 //! The outside: files by name, a source that is read once, and a sink; and whole reads and writes over them.
 #![tactic(auto)]
 
-#[cfg(test)]
-mod faults;
 mod host;
 mod memory;
 mod memory_files;

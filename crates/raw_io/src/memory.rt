@@ -1,4 +1,4 @@
-// Sources and sinks in memory, whose calls fail where they are told to.
+//! Sources and sinks in memory, whose calls fail where they are told to.
 
 ghost use Rattle.std.specs.Prelude.{◌≡◌, ℕ, ◌+◌, ◌^◌, ◌<◌, ◌≤◌, ◌||◌, nat_lt, min, List, [], ◌∷◌, ◌++◌, length, take};
 ghost use Rattle.std.specs.Prelude.{drop, Some, IfOk, OnOk, OnErr, IfSome, is_err};
@@ -10,7 +10,7 @@ use crate::{Failed, Sink, Source};
 use std::alloc::{AllocError, Global};
 use std::marker::Model;
 
-// The calls made on an object, and the numbers of those that fail.
+/// The calls made on an object, and the numbers of those that fail.
 #[derive(Debug, Drop)]
 pub(crate) struct Calls {
     made: u64,
@@ -33,7 +33,7 @@ impl Calls {
         }
     }
 
-    // Counts a call, and tells whether it is one that fails.
+    /// Counts a call, and tells whether it is one that fails.
     pub(crate) fn begin(&mut self) -> bool
         ensures after { self.new ≡ called self.old }
         ensures fails { result ≡ next_fails self.old }
@@ -132,7 +132,7 @@ impl Source for MemSource {
     }
 }
 
-// Copies as many bytes as both have, and answers how many.
+/// Copies as many bytes as both have, and answers how many.
 pub(crate) fn copy_prefix(from: &[u8], into: &mut [u8]) -> usize
     ensures count { result ≡ min (length from.now) (length into.old) }
     ensures copied { into.new ≡ take result from.now ++ drop result into.old }
@@ -231,46 +231,5 @@ impl Sink for MemSink {
             // The memory was taken at the start.
             Err(_) => unreachable!(),
         }
-    }
-}
-
-#[cfg(test)]
-mod tests {
-    use super::*;
-    use std::test::Fail;
-
-    #[test]
-    fn a_source_gives_its_bytes_once(rt: HostRuntime) -> Result<(), Fail> {
-        let mut source = MemSource::new(rt.alloc(), &[1, 2, 3, 4, 5])?;
-        source.fail_at(2)?;
-        let mut into = [0u8; 3];
-        for (answer, bytes) in [
-            (Ok(3), [1, 2, 3]),
-            (Err(Failed), [1, 2, 3]),
-            (Ok(2), [4, 5, 3]),
-            (Ok(0), [4, 5, 3]),
-        ] {
-            assert_eq!(rt; source.read(&mut into), answer);
-            assert_eq!(rt; into, bytes);
-        }
-        Ok(())
-    }
-
-    #[test]
-    fn a_sink_takes_what_fits(rt: HostRuntime) -> Result<(), Fail> {
-        let mut sink = MemSink::new(rt.alloc(), 5)?;
-        sink.fail_at(2)?;
-        for (from, answer) in [
-            (b"abc".as_slice(), Ok(3)),
-            (b"d".as_slice(), Err(Failed)),
-            (b"def".as_slice(), Err(Failed)),
-            (b"de".as_slice(), Ok(2)),
-            (b"".as_slice(), Ok(0)),
-            (b"f".as_slice(), Err(Failed)),
-        ] {
-            assert_eq!(rt; sink.write(from), answer);
-        }
-        assert_eq!(rt; sink.bytes(), b"abcde".as_slice());
-        Ok(())
     }
 }

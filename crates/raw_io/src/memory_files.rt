@@ -1,4 +1,4 @@
-// Files in memory, whose reads fail where they are told to.
+//! Files in memory, whose reads fail where they are told to.
 
 ghost use Rattle.std.specs.Prelude.{◌≡◌, ◌≢◌, ℕ, ◌-◌, ◌≤◌, ◌||◌, if◌then◌else◌, min, List, [], ◌++◌, length, take};
 ghost use Rattle.std.specs.Prelude.{drop, Option, Some, None, IfOk, OnOk, OnErr, IfSome, IsSome, is_err, is_none};
@@ -68,7 +68,7 @@ impl MemFile {
     }
 }
 
-// The place of the first file of this name, or the number of files.
+/// The place of the first file of this name, or the number of files.
 fn place(files: &[MemFile], name: &[u8]) -> usize
     ensures { result ≡ place_of name.now files.now }
 {
@@ -181,7 +181,7 @@ impl Files for MemFiles {
     }
 }
 
-// Copies from an offset as many bytes as both have, and answers how many.
+/// Copies from an offset as many bytes as both have, and answers how many.
 fn copy_from(bytes: &[u8], at: u64, into: &mut [u8]) -> usize
     ensures count { result ≡ min (length bytes.now - at) (length into.old) }
     ensures copied { into.new ≡ take result (drop at bytes.now) ++ drop result into.old }
@@ -190,35 +190,4 @@ fn copy_from(bytes: &[u8], at: u64, into: &mut [u8]) -> usize
         return 0;
     }
     copy_prefix(&bytes[at as usize..], into)
-}
-
-#[cfg(test)]
-mod tests {
-    use super::*;
-    use std::test::Fail;
-
-    #[test]
-    fn a_name_has_the_contents_that_it_was_given_last(rt: HostRuntime) -> Result<(), Fail> {
-        let alloc = rt.alloc();
-        let mut files = MemFiles::new(alloc)?;
-        files.add("a", b"old")?;
-        files.add("b", b"other")?;
-        files.add("a", b"12345")?;
-        files.fail_at(2)?;
-        let mut into = [0u8; 3];
-        for (name, at, answer, bytes) in [
-            ("a", 0, Ok(3), *b"123"),
-            ("a", 0, Err(Failed), *b"123"),
-            ("a", 3, Ok(2), *b"453"),
-            ("a", 5, Ok(0), *b"453"),
-            ("a", u64::MAX, Ok(0), *b"453"),
-            ("b", 1, Ok(3), *b"the"),
-            ("c", 0, Err(Failed), *b"the"),
-            ("", 0, Err(Failed), *b"the"),
-        ] {
-            assert_eq!(rt; files.read(name, at, &mut into), answer, "{name} from {at}");
-            assert_eq!(rt; into, bytes, "{name} from {at}");
-        }
-        Ok(())
-    }
 }

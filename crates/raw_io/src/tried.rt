@@ -1,4 +1,5 @@
-// Calls of readers and writers of std, tried again where a signal interrupted them, and the count of those that failed.
+//! Calls of readers and writers of std, tried again where a signal interrupted them, and the count of those that
+//! failed.
 
 ghost use Rattle.std.specs.Prelude.{◌≡◌, ℕ, ◌<◌, ◌≤◌, length, IfOk, is_err, if◌then◌else◌};
 ghost use Rattle.std.specs.Io.KnownBytes.{Keeps, ReadConsumes, WriteAppends};
@@ -7,7 +8,7 @@ ghost use Rattle.raw_io.specs.Memory.{one_more};
 use crate::Failed;
 use std::io::{ErrorKind, Read, Write};
 
-// How often a call that a signal interrupted is tried.
+/// How often a call that a signal interrupted is tried.
 const TRIES: u32 = 1 << 16;
 
 pub(crate) fn read_some<R: Read>(from: &mut R, into: &mut [u8]) -> Result<usize, Failed>
@@ -52,7 +53,7 @@ pub(crate) fn flush<W: Write>(to: &mut W) -> Result<(), Failed>
     Err(Failed)
 }
 
-// Counts a failed call.
+/// Counts a failed call.
 pub(crate) fn counted<T>(faults: &mut u64, outcome: Result<T, Failed>) -> Result<T, Failed>
     ensures same { result ≡ outcome }
     ensures count { faults.new ≡ (if is_err outcome then one_more faults.old else faults.old) }

@@ -3,7 +3,6 @@ pub mod Covering
 pub mod Layering
 pub mod Listing
 pub mod NoneMissing
-pub mod OneCell
 pub mod OverLower
 pub mod Replacing
 pub mod Sizes

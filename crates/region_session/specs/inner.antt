@@ -1,5 +1,4 @@
 -- Words for the contracts between functions of this crate.
-pub mod Examples
 pub mod Layers
 pub mod Parts
 pub mod Soundness

@@ -12,10 +12,3 @@ mod tally;
 pub use faults::{OpenFault, ShapeChanged};
 pub use session::Session;
 pub use tally::Tally;
-
-#[cfg(test)]
-mod kept_tests;
-#[cfg(test)]
-mod list_tests;
-#[cfg(test)]
-mod tests;

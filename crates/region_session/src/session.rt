@@ -5,6 +5,7 @@ ghost use Rattle.std.specs.Prelude.{false, Some, IfOk, IfErr, OnOk, OnErr};
 ghost use Rattle.plane_view.specs.Plane.{crop};
 ghost use Rattle.plane_view.specs.Rectangles.{area_of};
 ghost use Rattle.plane_view.specs.Shapes.{IsShape};
+ghost use Rattle.std.specs.Map.{keys_of};
 ghost use Rattle.stage_core.specs.Bases.{raised};
 ghost use Rattle.stage_core.specs.Planes.{IsPart, IsPlane};
 ghost use Rattle.stage_core.specs.Stages.{shape_of};
@@ -26,7 +27,6 @@ use stage_core::{Base, Stage, Steps};
 use std::alloc::{AllocError, Global};
 use std::marker::Model;
 use std::sync::ledger::Ledger;
-#[cfg(test)]
 use tile_cache::Key;
 
 /// Stages one after the other over a base, and cells that are kept under a budget. Contracts see the base's plane,
@@ -302,8 +302,13 @@ impl<B: Base, S: Stage> Session<B, S> {
     }
 
     /// The keys that are held, the most recent first.
-    #[cfg(test)]
-    pub(crate) fn keys(&self) -> Result<Vec<Key>, AllocError> {
+    ///
+    /// # Errors
+    ///
+    /// Out of memory.
+    pub fn keys(&self) -> Result<Vec<Key>, AllocError>
+        ensures { IfOk result (λ keys. keys.items ≡ keys_of self.now.keys) }
+    {
         self.tiles.cells.keys()
     }
 

@@ -7,9 +7,6 @@ use std::alloc::{AllocError, Global};
 use tiff_dirs::Order;
 use tiff_write::{Field, Place, file_bytes};
 
-#[cfg(test)]
-mod tests;
-
 /// The samples of a frame's strip.
 #[derive(Drop)]
 enum Strip {
@@ -76,6 +73,28 @@ pub fn plain(
         fields,
         strip: Strip::Samples(Items::from_slice(alloc, samples)?),
     })
+}
+
+/// An entry of the type UNDEFINED, as those of opcode lists are.
+///
+/// # Errors
+///
+/// `AllocError` where there is no memory.
+pub fn undefined(alloc: Global, tag: u16, bytes: &[u8]) -> Result<Field, AllocError> {
+    let mut field = Field::bytes(alloc, tag, bytes)?;
+    field.kind = 7;
+    Ok(field)
+}
+
+/// The entry of a first forward matrix that is the identity.
+///
+/// # Errors
+///
+/// `AllocError` where there is no memory.
+pub fn forward_identity(alloc: Global) -> Result<Field, AllocError> {
+    let (one, zero) = ((1, 1), (0, 1));
+    let entries = [one, zero, zero, zero, one, zero, zero, zero, one];
+    Field::signed_rationals(alloc, 50964, &entries)
 }
 
 /// The entry of the strip's byte count, for so many samples of a size.

@@ -7,6 +7,3 @@ mod file;
 
 pub use field::{Field, Place, Value};
 pub use file::file_bytes;
-
-#[cfg(test)]
-mod tests;

@@ -95,6 +95,3 @@ fn rise_to_the_end(points: &[(u16, u16)]) -> bool
     }
     last == u16::MAX
 }
-
-#[cfg(test)]
-mod tests;

@@ -1,4 +1,0 @@
-use Rattle.opcode_stages.proofs.tests.parts.Given as goal
-
-abbrev pub ghosts-develop : goal.ghosts-develop
-ghosts-develop g a = record { name = a.blank.name; parts = a.blank.parts }

@@ -1,4 +1,0 @@
-use Rattle.region_session.proofs.kept_tests.kept.Given as goal
-
-abbrev pub ghosts-told_thrice : goal.ghosts-told_thrice
-ghosts-told_thrice a = record { name = a.blank.name; parts = a.blank.parts }
