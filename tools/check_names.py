@@ -1,11 +1,13 @@
 #!/usr/bin/env python3
-"""Finds in a second what a proof finds in minutes: names, paths and layout that lead nowhere. `check_names.py`
+"""Finds in seconds what a proof finds in minutes: names, paths and layout that lead nowhere. `check_names.py`
 
-It reads the files that git knows, and looks at five things:
+It reads the files that git knows, and looks at seven things:
 
 - each name that a `use` takes from a file of specs/ or proofs/ of this repository stands in that file;
 - the old line of each must-fail edit stands exactly once in its file, and the new one differs from it;
 - each path of a crate that a document names is there;
+- each library that `crates.txt` gives a crate stands in its sources;
+- no two files of proofs/ state the same lemma, whatever its name and those of its variables;
 - no line of code, proofs, tools or prose passes 120 columns, but for attributes, which `rt fmt` joins, for tables and
   for what a program printed;
 - no file of code or proofs passes 800 lines.
@@ -24,6 +26,8 @@ TOP = Path(__file__).resolve().parent.parent
 USE = re.compile(r"\buse Rattle\.([^{}\s]+)\.\{([^}]*)\}")
 # Files that the toolchain writes: types, contracts and goals as proofs see them.
 WRITTEN = re.compile(r"\.(declared|contracts|Given|Goals)(\.|$)")
+LEMMA = re.compile(r"^(?:pub )?([^\s(){},:]+) : ((?:.*\n)(?:[ \t]+.*\n)*)", re.M)
+WORD = re.compile(r"[A-Za-z_'][\w'-]*")
 DOCUMENTED = re.compile(r"`((?:crates/|docs/|samples/|tools/|clients/)?[\w+]+(?:/[\w+.]+)+)/?`")
 
 
@@ -78,6 +82,49 @@ def lost_paths(path, crates):
             yield f"{name} isn't there"
 
 
+def unused_libraries():
+    """The libraries of crates that their sources don't name, by the line of crates.txt."""
+    for line in (TOP / "crates.txt").read_text().splitlines():
+        crate, colon, libraries = line.partition(":")
+        if not colon or crate.startswith("#"):
+            continue
+        folder = TOP / "crates" / crate
+        text = "\n".join(path.read_text() for path in files(".rt", ".antt") if folder in path.parents)
+        for library in libraries.split():
+            if not re.search(rf"\b{library}::|\bRattle\.{library}\b", text):
+                yield f"{crate} doesn't name {library}"
+
+
+def statement(text):
+    """A lemma's statement, with its variables numbered in their order."""
+    text = " ".join(text.split())
+    groups = re.findall(r"[({]([^(){}:]+?) :|λ ([^.()]+)\.", text)
+    variables = {word for pair in groups for word in " ".join(pair).split()}
+    numbers = {}
+
+    def numbered(match):
+        word = match[0]
+        return f"v{numbers.setdefault(word, len(numbers))}" if word in variables else word
+
+    return WORD.sub(numbered, text)
+
+
+def lemmas_twice():
+    """The lemmas that state what one of an earlier file does, with their files."""
+    first = {}
+    for path in files(".antt"):
+        if "proofs" not in path.parts:
+            continue
+        text = re.sub(r"^\s*--.*\n", "", path.read_text(), flags=re.M)
+        for name, stated in LEMMA.findall(text):
+            # a goal's answer, and a definition, which has no variable
+            if name == "use" or "goal." in stated or "(" not in stated or "≡" not in stated:
+                continue
+            other, word = first.setdefault(statement(stated), (path, name))
+            if other != path:
+                yield path, f"{name} states what {word} of {other.relative_to(TOP)} does"
+
+
 def is_ignored(file):
     """Whether git knows a file as one that is built."""
     return subprocess.run(["git", "check-ignore", "-q", file], cwd=TOP, check=False).returncode == 0
@@ -105,6 +152,8 @@ def main():
         found += [(path, fault) for fault in lost_paths(path, crates)]
     for path in files(".antt", ".rt", ".py", ".md"):
         found += [(path, fault) for fault in long_parts(path)]
+    found += [(TOP / "crates.txt", fault) for fault in unused_libraries()]
+    found += lemmas_twice()
     for path, fault in found:
         print(f"{path.relative_to(TOP)}: {fault}")
     return 1 if found else 0
