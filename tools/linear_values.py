@@ -1,5 +1,6 @@
 #!/usr/bin/env python3
-"""Linear values of raw ones (DNG 1.6, chapter 5), straight from the formula: the table of linearise's test.
+"""Linear values of raw ones (DNG 1.6, chapter 5), straight from the formula: the table of `linear`
+in `stage_tests`.
 
 Levels are in 256ths. The black level of a place is that of the pattern, and what its column and its row add. The
 white level stands `span` above the greatest black level of the area. A sample v, after the linearisation table, over

@@ -1,5 +1,5 @@
 #!/usr/bin/env python3
-"""Prints the file that the test of `tiff_write` compares with, in both byte orders: directory 0 with values of each
+"""Prints the file that `written` in `frame_tests` compares with, in both byte orders: directory 0 with values of each
 kind, a further directory whose entry lies about its count, and two bytes of data. TIFF 6.0, section 2."""
 import struct
 

@@ -1,6 +1,6 @@
 #!/usr/bin/env python3
 """Pixels after Malvar, He and Cutler (2004, figure 2), and by means of the nearest samples, straight from the
-formula: the table of malvar's test.
+formula: the table of `demosaic` in `stage_tests`.
 
 Each missing colour is a weighted sum in sixteenths, rounded to the nearest (a half up), held within 0 and 65535. A
 row or column outside the plane is read at its mirror image, -1 at 1 and n at n - 2.

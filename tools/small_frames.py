@@ -1,5 +1,5 @@
 #!/usr/bin/env python3
-"""Prints the small frames of the tests of frame_segments: 6 rows of 7 samples, of each depth, in strips and in tiles.
+"""Prints the small frames of `segments` in `frame_tests`: 6 rows of 7 samples, of each depth, in strips and in tiles.
 
 The sample at row r, column c is (4099 * (r % period) + 641 * c) % 2 ** depth, and padding is ones. The bits of a row
 are a string of binary digits (TIFF 6.0, sections 8 and 15; DNG 1.6, chapter 4).

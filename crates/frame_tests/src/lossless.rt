@@ -128,7 +128,31 @@ static NO_VALUES: [u8; 23] = [
     0xff, 0xd8, 0xff, 0xc4, 0, 19, 0, 1, 0, 0, 0, 0, 0, 0, 0, 0, 0, 0, 0, 0, 0, 0, 0,
 ];
 
-fn refusals() -> [Case; 11] {
+/// A frame header of 17 bits.
+static DEEP: [u8; 15] = [0xff, 0xd8, 0xff, 0xc3, 0, 11, 17, 0, 2, 0, 2, 1, 1, 0x11, 0];
+
+/// A frame header of 5 components.
+static FIVE: [u8; 27] = [
+    0xff, 0xd8, 0xff, 0xc3, 0, 23, 12, 0, 1, 0, 2, 5, 1, 0x11, 0, 2, 0x11, 0, 3, 0x11, 0, 4, 0x11,
+    0, 5, 0x11, 0,
+];
+
+/// A frame header of a component with two samples across.
+static WIDE: [u8; 15] = [0xff, 0xd8, 0xff, 0xc3, 0, 11, 12, 0, 2, 0, 2, 1, 1, 0x21, 0];
+
+/// A scan with no table before it.
+static UNTOLD: [u8; 25] = [
+    0xff, 0xd8, 0xff, 0xc3, 0, 11, 12, 0, 2, 0, 2, 1, 1, 0x11, 0, 0xff, 0xda, 0, 8, 1, 1, 0, 1, 0,
+    0,
+];
+
+/// `SQUARE` with predictor 1 and a point transform of 1.
+static SHIFTED: [u8; 48] = [
+    0xff, 0xd8, 0xff, 0xc3, 0, 11, 12, 0, 2, 0, 2, 1, 1, 0x11, 0, 0xff, 0xc4, 0, 21, 0, 1, 1, 0, 0,
+    0, 0, 0, 0, 0, 0, 0, 0, 0, 0, 0, 0, 0, 1, 0xff, 0xda, 0, 8, 1, 1, 0, 1, 0, 1,
+];
+
+fn refusals() -> [Case; 17] {
     [
         refused(&[0xff], JpegFault::NoStart),
         refused(&[0xff, 0xd8], JpegFault::Ended),
@@ -147,6 +171,15 @@ fn refusals() -> [Case; 11] {
         refused(&[0xff, 0xd8, 0xff, 0xdd, 0, 4, 0, 1], JpegFault::Restart),
         refused(&OVERFULL, JpegFault::Table),
         refused(&NO_VALUES, JpegFault::HeaderLength),
+        refused(&DEEP, JpegFault::Precision),
+        refused(&FIVE, JpegFault::Components),
+        refused(&WIDE, JpegFault::Sampling),
+        refused(&UNTOLD, JpegFault::NoTable),
+        Case {
+            predictor: 8,
+            ..refused(&SQUARE, JpegFault::Predictor)
+        },
+        refused(&SHIFTED, JpegFault::PointTransform),
     ]
 }
 
