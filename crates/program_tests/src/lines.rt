@@ -4,7 +4,7 @@ use super::outside::{Outside, flat_file, frame_replies, one_pixel, ran, replies}
 use developer::Status;
 use std::alloc::{AllocError, Global};
 use std::test::Fail;
-use test_frames::{forward_identity, plain};
+use test_frames::{bright_red, forward_identity, plain};
 use tiff_dirs::Order;
 
 fn accepted_lines() -> [&'static [u8]; 5] {
@@ -137,6 +137,29 @@ fn refused_changes_change_nothing(rt: HostRuntime) -> Result<(), Fail> {
             b"\x12\x34\x12\x34\x12\x34"
         )?
     );
+    Ok(())
+}
+
+/// The reply to a change to means, and to the region of the bright red in its row: a half of it at the site to the
+/// right.
+fn bright_row_by_means() -> &'static [u8] {
+    b"ok\nimage 31\nP6\n3 1\n65535\n\x06\x40\0\0\0\0\x03\x20\0\0\0\0\0\0\0\0\0\0"
+}
+
+/// Gains of 2, 1 and 3/2; and a white level of a half, which makes 4660 * 65535 / 32768, that is 9319.9.
+#[test]
+fn further_keys_are_seen(rt: HostRuntime) -> Result<(), Fail> {
+    let alloc = rt.alloc();
+    assert!(rt;
+        pixel_after(
+            alloc,
+            b"set wb 8192 4096 6144\n",
+            b"\x24\x68\x12\x34\x1B\x4E"
+        )?
+    );
+    assert!(rt; pixel_after(alloc, b"set white 32768\n", b"\x24\x68\x24\x68\x24\x68")?);
+    let script = b"set demosaic bilinear\nregion 4 4 3 1 ppm\n";
+    assert!(rt; frame_replies(alloc, bright_red(alloc)?, script, bright_row_by_means())?);
     Ok(())
 }
 
