@@ -1,7 +1,7 @@
 #!/usr/bin/env python3
 """Finds in seconds what a proof finds in minutes: names, paths and layout that lead nowhere. `check_names.py`
 
-It reads the files that git knows, and looks at seven things:
+It reads the files that git doesn't ignore, and looks at seven things:
 
 - each name that a `use` takes from a file of specs/ or proofs/ of this repository stands in that file;
 - the old line of each must-fail edit stands exactly once in its file, and the new one differs from it;
@@ -32,8 +32,9 @@ DOCUMENTED = re.compile(r"`((?:crates/|docs/|samples/|tools/|clients/)?[\w+]+(?:
 
 
 def files(*endings):
-    """The files that git knows and that are there, with one of these endings."""
-    names = subprocess.run(["git", "ls-files"], cwd=TOP, check=True, capture_output=True, text=True).stdout.split("\n")
+    """The files that are there and that git doesn't ignore, with one of these endings."""
+    command = ["git", "ls-files", "--cached", "--others", "--exclude-standard"]
+    names = subprocess.run(command, cwd=TOP, check=True, capture_output=True, text=True).stdout.split("\n")
     return [TOP / name for name in names if name.endswith(endings) and (TOP / name).is_file()]
 
 

@@ -203,6 +203,30 @@ pub fn numbers(alloc: Global, count: usize) -> Result<Vec<u16>, AllocError>
     Ok(numbers)
 }
 
+/// A base of so many rows and columns, whose samples are the numbers from 0 up.
+pub fn numbered<'a>(
+    alloc: Global,
+    rows: u32,
+    cols: u32,
+    done: &'a Done,
+) -> Result<Whole<'a>, AllocError>
+    requires some_rows { 1 ≤ rows }
+    requires rows { rows ≤ 40 }
+    requires some_cols { 1 ≤ cols }
+    requires cols { cols ≤ 48 }
+{
+    Ok(Whole {
+        shape: Shape {
+            rows,
+            cols,
+            planes: 1,
+        },
+        samples: numbers(alloc, rows as usize * cols as usize)?,
+        fetched: 0,
+        done,
+    })
+}
+
 /// A session of seven stages over a plane, of which the fifth takes so many rows. The third stage looks two pixels
 /// round itself.
 pub fn open<'a>(
@@ -226,16 +250,7 @@ pub fn open<'a>(
     ensures changes { IfOk result (λ session. session.stamps.changes ≡ 0) }
 {
     let [source, lower, upper] = done;
-    let base = Whole {
-        shape: Shape {
-            rows,
-            cols,
-            planes: 1,
-        },
-        samples: numbers(alloc, rows as usize * cols as usize)?,
-        fetched: 0,
-        done: source,
-    };
+    let base = numbered(alloc, rows, cols, source)?;
     let mut stages = Vec::new(alloc);
     for k in 0..7u32 {
         let stage = Near {

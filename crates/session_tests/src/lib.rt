@@ -6,6 +6,8 @@ mod bands;
 #[cfg(test)]
 mod counting;
 #[cfg(test)]
+mod in_turn;
+#[cfg(test)]
 mod kept;
 #[cfg(test)]
 mod keys;
