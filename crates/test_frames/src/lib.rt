@@ -1,5 +1,5 @@
 //! Frames for tests, built entry by entry: the flat frame, the bright-red frame, and either with changes, in either
-//! byte order. The crate is for tests alone: its calls are safe, and its own tests say what they give.
+//! byte order. The crate is for tests alone: its calls are safe, and `small` of `frame_tests` says what they give.
 #![tactic(auto)]
 
 use lists::Items;
