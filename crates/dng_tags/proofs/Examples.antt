@@ -24,7 +24,7 @@ use Rattle.tag_rules.specs.Opcodes.{opcodes_under}
 use Rattle.dng_tags.specs.Layout.{checked_layout, layout_of, rect_at, segment_at, segments_in, segments_of}
 use Rattle.dng_tags.specs.Layout.{strip_rows_of, strips_of}
 use Rattle.dng_tags.specs.Origin.{needed_version_of, origin_of, raw_directory_of, subfile_type_at, tiff_of, version_of}
-use Rattle.dng_tags.specs.Pattern.{colours_of, has_plane_colours, has_square_layout, pattern_of, pattern_size_of}
+use Rattle.dng_tags.specs.Pattern.{colours_of, has_plane_colours, has_rectangular_layout, pattern_of, pattern_size_of}
 use Rattle.tag_rules.specs.Quantities.{in_parts}
 use Rattle.tag_rules.specs.declared.faults.FrameFault.TheVariants.{BadDirectory, NotTiff, Outside}
 use Rattle.dng_tags.specs.declared.record.Frame.{Frame}
@@ -95,7 +95,7 @@ flat-frame : frame_of flat ≡ Ok flat_record
 unfolding frame_of record_of tiff_of open_of origin_of version_of needed_version_of raw_directory_of subfile_type_at
     form_of photometric_of lossless_of samples_per_pixel_of depth_of format_of shape_of side_of required_number_of
     number_or segments_of layout_of strips_of strip_rows_of required_numbers_of checked_layout segments_in segment_at
-    rect_at pattern_of pattern_size_of colours_of has_plane_colours has_square_layout listed_of opcodes_under
+    rect_at pattern_of pattern_size_of colours_of has_plane_colours has_rectangular_layout listed_of opcodes_under
     first_misfit left_after active_of large_enough levels_of table_of repeat_of levels_under white_of spanning span_of
     greatest_black crop_of extent_of colour_of matrix_of calibration_of analog_of gains_of numbers_of number_of
     numbers_at fractions_of fractions_at field_at numbers_in fractions_in order_of is_big is_little has_header

@@ -53,6 +53,7 @@ abbrev pub extent_found : Option (List (ℤ × ℤ)) → Result (Option Extent) 
 extent_found None = Ok None
 extent_found (Some xs) = and_then (extent_in xs) (λ extent. Ok (Some extent))
 
+-- the two numbers of a tag, if it is there
 unfoldable pub extent_of : Dirs → Tag → Result (Option Extent) FrameFault
 extent_of dirs tag = and_then (fractions_of dirs tag) extent_found
 

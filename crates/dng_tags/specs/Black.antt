@@ -20,7 +20,7 @@ use Rattle.tag_rules.specs.declared.tags.Tag.{Tag}
 use Rattle.tag_rules.specs.declared.tags.Tag.TheVariants.{BlackLevel, BlackLevelDeltaH, BlackLevelDeltaV}
 use Rattle.tag_rules.specs.declared.tags.Tag.TheVariants.{BlackLevelRepeatDim, LinearizationTable, WhiteLevel}
 
--- the black level of a pattern's row i and column c, and what the column adds
+-- the black level that row i of the pattern gives in column c of the area, and what that column adds
 abbrev pub across_at : Levels → (i c : ℕ) → ℤ
 across_at levels i c =
     slice_index_or levels.black (i * levels.black_cols + c % levels.black_cols) (pos 0)
@@ -57,6 +57,7 @@ table_of dirs = and_then (numbers_of dirs LinearizationTable) (λ found. Ok (unw
 abbrev pub repeat_in : List ℕ → Repeat
 repeat_in xs = record { rows = slice_index xs 0; cols = slice_index xs 1 }
 
+-- the size of the pattern by its tag, one by one where that is absent
 unfoldable pub repeat_of : Dirs → Result Repeat FrameFault
 repeat_of dirs =
     and_then (numbers_of dirs BlackLevelRepeatDim) (λ found.
@@ -70,6 +71,7 @@ levels_or count zero_count None = Ok (replicate zero_count (pos 0))
 levels_or count zero_count (Some qs) =
     if length qs == count then on_scale level_scale LevelsFault qs else Err LevelsFault
 
+-- the levels under a tag
 unfoldable pub levels_under : Dirs → Tag → (count zero_count : ℕ) → Result (List ℤ) FrameFault
 levels_under dirs tag count zero_count = and_then (fractions_of dirs tag) (λ found. levels_or count zero_count found)
 

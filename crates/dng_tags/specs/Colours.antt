@@ -25,10 +25,12 @@ abbrev pub colours_in : Tag → List (ℤ × ℤ) → Result (List ℤ) FrameFau
 colours_in tag qs = on_scale colour_scale (colour_fault tag) qs
 
 -- a matrix, by rows, where it is there
+-- the entries of a matrix from the fractions of its tag
 abbrev pub matrix_in : Tag → Option (List (ℤ × ℤ)) → Result (Option (List ℤ)) FrameFault
 matrix_in tag None = Ok None
 matrix_in tag (Some qs) = and_then (colours_in tag qs) (λ entries. Ok (Some entries))
 
+-- the matrix under a tag, if it is there
 unfoldable pub matrix_of : Dirs → Tag → Result (Option (List ℤ)) FrameFault
 matrix_of dirs tag = and_then (fractions_of dirs tag) (λ found. matrix_in tag found)
 
@@ -62,16 +64,18 @@ calibration_in tag (Some qs) =
     and_then (colours_in tag qs) (λ entries.
     if is_diagonal qs then Ok (diagonal_of entries) else Err (colour_fault tag))
 
+-- the calibration under a tag
 unfoldable pub calibration_of : Dirs → Tag → Result (List ℤ) FrameFault
 calibration_of dirs tag = and_then (fractions_of dirs tag) (λ found. calibration_in tag found)
 
--- the analog balance, each of which is positive; ones where it is absent
+-- the numbers of the analog balance, each of them positive; ones where it is absent
 abbrev pub analog_in : Option (List (ℤ × ℤ)) → Result (List ℤ) FrameFault
 analog_in None = Ok ones
 analog_in (Some qs) =
     and_then (colours_in AnalogBalance qs) (λ entries.
     if list_all (int_lt (pos 0)) entries then Ok entries else Err (colour_fault AnalogBalance))
 
+-- the analog balance by its tag
 unfoldable pub analog_of : Dirs → Result (List ℤ) FrameFault
 analog_of dirs = and_then (fractions_of dirs AnalogBalance) (λ found. analog_in found)
 
@@ -101,6 +105,7 @@ gains_in (Some qs) =
     let green = slice_index_or qs 1 (pos 0, pos 0) in
     if list_all (has_gain green) qs then Ok (map (gain_of green) qs) else Err (colour_fault AsShotNeutral)
 
+-- the gains by the tag of the neutral
 unfoldable pub gains_of : Dirs → Result (List ℕ) FrameFault
 gains_of dirs = and_then (fractions_of dirs AsShotNeutral) (λ found. gains_in found)
 

@@ -79,6 +79,7 @@ pub record AreLevels (levels : Levels) (rows cols : ℕ) : Type 0 where
 abbrev pub IsMatrix : Option (List ℤ) → Type 0
 IsMatrix matrix = IfSome matrix (AreWithin 1048576)
 
+-- gains of 1 to 2^20, and forward matrices in their range
 pub record AreColours (colour : Colour) : Type 0 where
   pub gains : (k : ℕ) → k < 3 → (1 ≤ slice_index colour.gains k) × (slice_index colour.gains k ≤ 1048576)
   pub forward1 : IsMatrix colour.forward1

@@ -1,5 +1,5 @@
--- The second group: what kind of image it is (TIFF 6.0, section 8, "PhotometricInterpretation", "Compression",
--- "SamplesPerPixel", "BitsPerSample", "ImageWidth", "ImageLength", and section 19, "SampleFormat"; DNG 1.6, chapter 4,
+-- The group of the form: what kind of image it is (TIFF 6.0, section 8, "PhotometricInterpretation", "Compression",
+-- "SamplesPerPixel", "BitsPerSample", "ImageWidth", "ImageLength", and section 19, "SampleFormat"; DNG 1.6, chapter 3,
 -- for photometric interpretation 32803 and compression 7). The limits of the image's size are this project's own.
 use Rattle.std.specs.Prelude.{ℕ, ◌*◌, ◌^◌, ◌==◌, nat_le, ◌&&◌, ◌||◌, if◌then◌else◌, Bool, Result, Ok, Err}
 use Rattle.plane_view.specs.declared.Shape.{Shape}
@@ -25,6 +25,7 @@ lossless_of dirs =
     and_then (number_or dirs Compression 1) (λ v.
     if v == 1 || v == 7 then Ok (v == 7) else Err (CompressionFault v))
 
+-- how many samples a pixel has
 unfoldable pub samples_per_pixel_of : Dirs → Result ℕ FrameFault
 samples_per_pixel_of dirs =
     and_then (number_or dirs SamplesPerPixel 1) (λ v. if v == 1 then Ok v else Err (Samples v))
@@ -45,13 +46,14 @@ side_of dirs tag =
     and_then (required_number_of dirs tag) (λ side.
     if nat_le 1 side && nat_le side 8192 then Ok side else Err Size)
 
+-- the shape of the raw image: its sides, of one plane
 unfoldable pub shape_of : Dirs → Result Shape FrameFault
 shape_of dirs =
     and_then (side_of dirs ImageWidth) (λ cols.
     and_then (side_of dirs ImageLength) (λ rows.
     if nat_le (rows * cols) (2 ^ 25) then Ok (record { rows = rows; cols = cols; planes = 1 }) else Err Size))
 
--- the second group
+-- the group of the form
 unfoldable pub form_of : Dirs → Result Form FrameFault
 form_of dirs =
     and_then (photometric_of dirs) (λ _.

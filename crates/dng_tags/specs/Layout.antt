@@ -1,4 +1,4 @@
--- The third and fourth groups: the strips or tiles, and that they lie in the file (TIFF 6.0, section 8, "StripOffsets",
+-- The group of the segments: the strips or tiles, and that they lie in the file (TIFF 6.0, section 8, "StripOffsets",
 -- "RowsPerStrip", "StripByteCounts", and section 15, "Tiled Images"). The limits are this project's own.
 use Rattle.std.specs.Prelude.{ℕ, ◌+◌, ◌-◌, ◌*◌, ◌/◌, ◌%◌, ◌^◌, nat_le, nat_lt, ◌&&◌, if◌then◌else◌, Bool, true, false}
 use Rattle.std.specs.Prelude.{List, map, length, slice_index, Option, None, Some, Result, Ok, Err, unwrap_or, min}
@@ -75,7 +75,7 @@ abbrev pub tiles_or_strips : Dirs → Shape → Option ℕ → Result Layout Fra
 tiles_or_strips dirs shape (Some tile_width) = tiles_of dirs tile_width
 tiles_or_strips dirs shape None = strips_of dirs shape
 
--- the third group
+-- the layout: strips, or tiles where the tag of their width is there
 unfoldable pub layout_of : Dirs → Shape → Result Layout FrameFault
 layout_of dirs shape =
     and_then (number_of dirs TileWidth) (λ found.
@@ -113,11 +113,12 @@ segments_in shape layout = map (segment_at shape layout) (range_with_len 0 (segm
 abbrev pub passes_end : ℕ → Segment → Bool
 passes_end len segment = nat_lt len (segment.at + segment.length)
 
+-- a value, or the refusal of the segment that passes the end
 abbrev pub refused_outside : {A : Type 0} → Option ℕ → A → Result A FrameFault
 refused_outside (Some k) value = Err (Outside k)
 refused_outside None value = Ok value
 
--- the third and fourth groups: the segments, none of which passes the end of the file
+-- the group of the segments: none of them passes the end of the file
 unfoldable pub segments_of : Dirs → Shape → Result (List Segment) FrameFault
 segments_of dirs shape =
     and_then (layout_of dirs shape) (λ layout.

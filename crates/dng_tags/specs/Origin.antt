@@ -1,7 +1,7 @@
--- The first group: a TIFF file of a DNG version that can be read, and the directory of its raw image (TIFF 6.0, section
--- 2; DNG 1.6, chapter 4, "DNGVersion", "DNGBackwardVersion", "NewSubFileType"; Adobe's TIFF Technical Note 1,
--- "SubIFDs"). That the raw image is the first of directory 0 and its SubIFDs whose NewSubFileType is 0 is this
--- project's own.
+-- The group of the origin: a TIFF file of a DNG version that can be read, and the directory of its raw image (TIFF 6.0,
+-- section 2; DNG 1.6, chapter 4, "DNGVersion", "DNGBackwardVersion", and chapter 3, "NewSubFileType"; Adobe's TIFF
+-- Technical Note 1, "SubIFDs"). That the raw image is the first of directory 0 and its SubIFDs whose NewSubFileType is
+-- 0 is this project's own.
 use Rattle.std.specs.Prelude.{ℕ, ◌==◌, nat_lt, ◌&&◌, ◌||◌, if◌then◌else◌, Bool, List, [], ◌∷◌, slice_index, Result, Ok}
 use Rattle.std.specs.Prelude.{Err}
 use Rattle.std.specs.Option.{option_map_or}
@@ -71,7 +71,7 @@ raw_directory_of bytes =
     else and_then (numbers_at bytes (first_directory bytes) SubIfds) (λ found.
     and_then (or_refuse found NoRaw) (λ offsets. first_raw bytes offsets)))
 
--- the first group: the file with its raw image's directory
+-- the group of the origin: the file with its raw image's directory
 unfoldable pub origin_of : List ℕ → Result Dirs FrameFault
 origin_of bytes =
     and_then (version_of bytes) (λ version.

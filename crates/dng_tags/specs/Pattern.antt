@@ -1,5 +1,5 @@
--- The fifth group: the colours of the filter array (TIFF/EP, "CFARepeatPatternDim", "CFAPattern"; DNG 1.6, chapter 4,
--- "CFAPlaneColor", "CFALayout"). The four patterns that are accepted are this project's own.
+-- The group of the pattern: the colours of the filter array (TIFF/EP, "CFARepeatPatternDim", "CFAPattern"; DNG 1.6,
+-- chapter 4, "CFAPlaneColor", "CFALayout"). The four patterns that are accepted are this project's own.
 use Rattle.std.specs.Prelude.{ℕ, ◌==◌, ◌&&◌, if◌then◌else◌, Bool, true, List, [], ◌∷◌, slice_index, Result, Ok, Err}
 use Rattle.std.specs.List.{find}
 use Rattle.std.specs.Option.{option_map_or}
@@ -42,20 +42,21 @@ colours_of dirs =
 abbrev pub are_red_green_blue : List ℕ → Bool
 are_red_green_blue xs = slice_index xs 0 == 0 && slice_index xs 1 == 1 && slice_index xs 2 == 2
 
+-- whether the planes of colours are red, green and blue
 unfoldable pub has_plane_colours : Dirs → Result Bool FrameFault
 has_plane_colours dirs =
     and_then (numbers_of dirs CfaPlaneColor) (λ found.
     if option_map_or are_red_green_blue found true then Ok true else Err Cfa)
 
--- a rectangular layout
-unfoldable pub has_square_layout : Dirs → Result Bool FrameFault
-has_square_layout dirs =
+-- whether the layout is rectangular
+unfoldable pub has_rectangular_layout : Dirs → Result Bool FrameFault
+has_rectangular_layout dirs =
     and_then (number_or dirs CfaLayout 1) (λ v. if v == 1 then Ok true else Err Cfa)
 
--- the fifth group
+-- the group of the pattern
 unfoldable pub pattern_of : Dirs → Result (List ℕ) FrameFault
 pattern_of dirs =
     and_then (pattern_size_of dirs) (λ _.
     and_then (colours_of dirs) (λ cfa.
     and_then (has_plane_colours dirs) (λ _.
-    and_then (has_square_layout dirs) (λ _. Ok cfa))))
+    and_then (has_rectangular_layout dirs) (λ _. Ok cfa))))

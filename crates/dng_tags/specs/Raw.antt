@@ -1,5 +1,5 @@
 -- The raw plane of a frame, and which of its segments can't be decoded (TIFF 6.0, section 8, "StripOffsets", and
--- section 15, "Tiled Images"; DNG 1.6, chapter 4, "BitsPerSample" and "Compression"; ITU-T T.81, annex H). That
+-- section 15, "Tiled Images"; DNG 1.6, chapter 3, "BitsPerSample" and "Compression"; ITU-T T.81, annex H). That
 -- segments are looked at in their order is this project's own.
 use Rattle.std.specs.Prelude.{ℕ, ◌+◌, ◌-◌, ◌*◌, nat_lt, if◌then◌else◌, List, [], ◌∷◌, length, slice_index, slice_range}
 use Rattle.std.specs.Prelude.{Option, None, Some, Result, Ok, Err}
@@ -79,6 +79,7 @@ raw bytes frame = segments_plane bytes (coding_of frame) frame.shape frame.segme
 abbrev pub segment_fault : List ℕ → Coding → Segment → Option SegmentFault
 segment_fault bytes coding segment = result_err (samples_in bytes coding segment)
 
+-- the refusal of a segment that can't be decoded, else that of a later one
 abbrev pub refused_or : ℕ → Option SegmentFault → Option FrameFault → Option FrameFault
 refused_or k (Some why) later = Some (SegmentRefused k why)
 refused_or k None later = later

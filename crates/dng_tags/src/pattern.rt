@@ -2,7 +2,7 @@
 
 ghost use Rattle.std.specs.Prelude.{◌≡◌, ◌≤◌, length, IfOk, IfSome, IsTrue};
 ghost use Rattle.std.specs.List.{Contains, find};
-ghost use Rattle.dng_tags.specs.Pattern.{are_red_green_blue, colours_of, has_plane_colours, has_square_layout};
+ghost use Rattle.dng_tags.specs.Pattern.{are_red_green_blue, colours_of, has_plane_colours, has_rectangular_layout};
 ghost use Rattle.dng_tags.specs.Pattern.{is_same_pattern, pattern_of, pattern_size_of, patterns};
 
 use tag_rules::{Directories, FrameFault, Tag, Whole};
@@ -99,9 +99,9 @@ fn are_red_green_blue(colours: &Whole<'_>) -> bool
 }
 
 /// Squares in rows and columns.
-#[tactic(auto, unfolding(crate::specs::Pattern::has_square_layout))]
+#[tactic(auto, unfolding(crate::specs::Pattern::has_rectangular_layout))]
 fn check_layout(dirs: &Directories<'_>) -> Result<bool, FrameFault>
-    ensures { result ≡ has_square_layout dirs.now }
+    ensures { result ≡ has_rectangular_layout dirs.now }
 {
     if dirs.number_or(Tag::CfaLayout, SQUARE)? != SQUARE {
         return Err(FrameFault::Cfa);

@@ -34,7 +34,7 @@ use Rattle.dng_tags.specs.Layout.{checked_layout, layout_of, parts, rect_at, seg
 use Rattle.dng_tags.specs.Layout.{segments_of, strip_rows_of, strips_of}
 use Rattle.dng_tags.specs.Listed.{area_shape, coloured_shape, listed_of}
 use Rattle.dng_tags.specs.Origin.{needed_version_of, origin_of, raw_directory_of, subfile_type_at, tiff_of, version_of}
-use Rattle.dng_tags.specs.Pattern.{colours_of, has_plane_colours, has_square_layout, pattern_of, pattern_size_of}
+use Rattle.dng_tags.specs.Pattern.{colours_of, has_plane_colours, has_rectangular_layout, pattern_of, pattern_size_of}
 use Rattle.dng_tags.specs.declared.area.Extent.{Extent}
 use Rattle.dng_tags.specs.declared.layout.Cut.{Cut}
 use Rattle.dng_tags.specs.declared.layout.Layout.{Layout}
@@ -225,8 +225,8 @@ module _ {bytes : List ℕ} {w h bits method count : ℕ} (e : HasEntries bytes 
   -- ---- the other groups
 
   told_pattern : pattern_of dirs ≡ Ok (0 ∷ 1 ∷ 1 ∷ 2 ∷ [])
-  unfolding pattern_of pattern_size_of colours_of has_plane_colours has_square_layout required_numbers_of numbers_of
-      number_or number_of
+  unfolding pattern_of pattern_size_of colours_of has_plane_colours has_rectangular_layout required_numbers_of
+      numbers_of number_or number_of
   told_pattern =
       rw (read.dims_are e, read.pattern_is e, absent e CfaPlaneColor refl, absent e CfaLayout refl) refl
 

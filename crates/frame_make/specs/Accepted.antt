@@ -1,8 +1,9 @@
 -- What the frame definition makes of a made frame: this project's own choice of one.
-use Rattle.std.specs.Prelude.{ℕ, ◌*◌, ◌^◌, ◌≤◌, Bool, true, false, pos, ℤ, List, [], ◌∷◌, length, None}
+use Rattle.std.specs.Prelude.{ℕ, ◌*◌, ◌^◌, ◌≤◌, Bool, true, false, pos, List, [], ◌∷◌, length, None}
 use Rattle.plane_view.specs.Plane.{Plane, plane_of}
 use Rattle.plane_view.specs.Rectangles.{whole_rect}
 use Rattle.tiff_dirs.specs.declared.Order.TheVariants.{Little}
+use Rattle.dng_tags.specs.Colours.{ones}
 use Rattle.dng_tags.specs.declared.record.Colour.{Colour}
 use Rattle.dng_tags.specs.declared.record.Frame.{Frame}
 use Rattle.dng_tags.specs.declared.record.Levels.{Levels}
@@ -32,9 +33,6 @@ made_levels = record {
 }
 
 -- no colour tags: gains and calibrations of one, no matrix
-abbrev pub ones : List ℤ
-ones = pos 65536 ∷ pos 65536 ∷ pos 65536 ∷ []
-
 abbrev pub made_colour : Colour
 made_colour = record {
   gains = 4096 ∷ 4096 ∷ 4096 ∷ [];
@@ -70,6 +68,7 @@ one_strip_frame w h depth lossless strip_length = record {
   colour = made_colour;
 }
 
+-- whether a form is coded as lossless JPEG
 abbrev pub is_lossless : Make → Bool
 is_lossless Plain16 = false
 is_lossless Packed12 = false

@@ -75,7 +75,8 @@ longs tag numbers = record { tag = tag; kind = 4; count = length numbers; value 
 abbrev pub bytes_under : ℕ → List ℕ → Field
 bytes_under tag numbers = record { tag = tag; kind = 1; count = length numbers; value = Bytes numbers }
 
--- the entries of a frame of w columns and h rows: the strip stands behind the directory, at 146
+-- The entries of a frame of w columns and h rows. The strip stands behind the directory, at 146: the header has 8
+-- bytes, the count 2, the eleven entries 12 each, and the offset of the next directory 4.
 unfoldable pub fields_of : (w h depth compression strip_length : ℕ) → List Field
 fields_of w h depth compression strip_length =
     shorts 256 (w ∷ [])

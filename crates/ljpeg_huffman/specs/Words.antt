@@ -27,12 +27,12 @@ words_from size code (count ∷ counts) values =
 unfoldable pub code_words : List ℕ → List ℕ → Table
 code_words counts values = words_from 1 0 counts values
 
--- How many of the 2^16 words of 16 bits begin with a code word, from a length on.
+-- How many of the 2^16 lists of 16 bits begin with a code word, from a length on.
 unfoldable pub space_from : ℕ → List ℕ → ℕ
 space_from size [] = 0
 space_from size (count ∷ counts) = count * 2 ^ (16 - size) + space_from (suc size) counts
 
--- Bits begin with a word.
+-- Bits begin with a code word.
 abbrev pub IsPrefix : List Bool → List Bool → Type 0
 IsPrefix word bits = (rest : List Bool) × (bits ≡ word ++ rest)
 

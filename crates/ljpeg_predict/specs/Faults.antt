@@ -26,6 +26,7 @@ jpeg_fault_name fault.NoCode = codes "NoCode"
 abbrev pub field_text : ℕ → List ℕ
 field_text number = 32 ∷ decimal number
 
+-- the name of a fault, and its number if it has one
 abbrev pub jpeg_fault_text : JpegFault → List ℕ
 jpeg_fault_text (fault.Marker byte) = codes "Marker" ++ field_text byte
 jpeg_fault_text (fault.NotLossless marker) = codes "NotLossless" ++ field_text marker

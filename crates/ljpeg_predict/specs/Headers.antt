@@ -20,7 +20,8 @@ use Rattle.ljpeg_predict.specs.declared.segments.Kind.TheVariants as kind
 abbrev pub some_component : ℕ → (ℕ → Bool) → Bool
 some_component count test = list_any test (range_with_len 0 count)
 
--- whether some component of a frame header's body has sampling factors other than 1 across and down (B.2.2)
+-- whether some component of a frame header's body has a horizontal or vertical sampling factor other than 1
+-- (B.2.2)
 unfoldable pub is_subsampled : List ℕ → ℕ → Bool
 is_subsampled body count = some_component count (λ c. not (slice_index body (7 + 3 * c) == 0x11))
 
@@ -74,6 +75,7 @@ tables_from (suc more) tables body = do
       then Ok (slice_set tables told.number (Some told.table))
       else tables_from more (slice_set tables told.number (Some told.table)) told.rest
 
+-- the tables after a body of tables (B.2.4.2)
 abbrev pub tables_of : List (Option Table) → List ℕ → Result (List (Option Table)) JpegFault
 tables_of tables body = tables_from (length body) tables body
 
@@ -142,6 +144,7 @@ pub record Told : Type 0 where
   pub frame : Option FrameHeader
   pub tables : List (Option Table)
 
+-- no frame header and no table
 abbrev pub nothing_told : Told
 nothing_told = record { frame = None; tables = None ∷ None ∷ None ∷ None ∷ [] }
 

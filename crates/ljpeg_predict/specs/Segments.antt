@@ -8,7 +8,7 @@ use Rattle.ljpeg_predict.specs.declared.headers.FrameHeader.{FrameHeader}
 use Rattle.ljpeg_predict.specs.declared.segments.Kind.{Kind}
 use Rattle.ljpeg_predict.specs.declared.segments.Kind.TheVariants as kind
 
--- the number in the two bytes at a place, the more significant one first (B.1.1.1)
+-- the number in the two bytes at a place, the most significant one first (B.1.1.1)
 abbrev pub number_at : List ℕ → ℕ → ℕ
 number_at bytes place = 256 * slice_index bytes place + slice_index bytes (place + 1)
 

@@ -1,5 +1,5 @@
--- The bytes of an opcode list cut into opcodes (DNG 1.6, "Opcode List Processing"): numbers are big-endian whatever the
--- file's byte order.
+-- The bytes of an opcode list cut into opcodes (DNG 1.6, "Opcode List Processing"): the most significant byte of a
+-- number stands first, whatever the file's byte order.
 use Rattle.std.specs.Prelude.{ℕ, zero, suc, ◌+◌, nat_lt, if◌then◌else◌, List, [], ◌∷◌, Option, None, Some, drop, length}
 use Rattle.std.specs.Prelude.{slice_index}
 use Rattle.std.specs.List.{slice_range}

@@ -5,6 +5,7 @@ use Rattle.opcode_list.specs.declared.opcode.OpcodeFault.{OpcodeFault}
 use Rattle.opcode_list.specs.declared.opcode.OpcodeFault.TheVariants.{BadParams, Memory, Newer, NotHere, TooMany}
 use Rattle.opcode_list.specs.declared.opcode.OpcodeFault.TheVariants.{Truncated, Unknown}
 
+-- the name of a fault, and its numbers
 abbrev pub fault_text : OpcodeFault → List ℕ
 fault_text TooMany = codes "TooMany"
 fault_text (Truncated index) = codes "Truncated " ++ decimal index

@@ -10,7 +10,7 @@ use Rattle.opcode_list.specs.declared.opcode.OpcodeFault.TheVariants.{Truncated,
 use Rattle.opcode_list.specs.Cuts.{RawOpcode, cut_opcodes, long_at}
 use Rattle.opcode_list.specs.Params.{opcode_with}
 
--- the value of the first and the second, or the first refusal
+-- what the next step makes of the value, or the refusal
 abbrev pub and_then : {A B : Type 0} → Result A OpcodeFault → (A → Result B OpcodeFault) → Result B OpcodeFault
 and_then (Ok value) next = next value
 and_then (Err fault) next = Err fault
@@ -19,11 +19,11 @@ and_then (Err fault) next = Err fault
 abbrev pub is_newer : RawOpcode → Bool
 is_newer raw = nat_lt 1 raw.major || ((raw.major == 1) && nat_lt 6 raw.minor)
 
--- an ID that can be run
+-- an ID that can be run, 4 to 7: `opcode_with` names them
 abbrev pub is_known : ℕ → Bool
 is_known id = nat_le 4 id && nat_le id 7
 
--- an ID that can't be run in a list: bad pixels aren't mended in list 3, whose plane is demosaiced
+-- an ID that can't be run in a list: bad pixels (4 and 5) aren't mended in list 3, whose plane is demosaiced
 abbrev pub is_misplaced : ℕ → ℕ → Bool
 is_misplaced list id = (list == 3) && nat_le 4 id && nat_le id 5
 

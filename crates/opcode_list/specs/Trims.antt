@@ -34,11 +34,12 @@ first_misfit index [] shape = None
 first_misfit index (opcode ∷ more) shape =
     if fits opcode shape then first_misfit (index + 1) more (left_by opcode shape) else Some index
 
--- the shape that is left, or the first trim that is refused
+-- a shape, or the index of the trim that is refused
 abbrev pub left_or : Option ℕ → Shape → Result Shape ℕ
 left_or None left = Ok left
 left_or (Some index) left = Err index
 
+-- the shape that the trims of a list leave, or the first one that doesn't lie in the plane that it finds
 abbrev pub trimmed : List Opcode → Shape → Result Shape ℕ
 trimmed opcodes shape = left_or (first_misfit 0 opcodes shape) (left_after opcodes shape)
 

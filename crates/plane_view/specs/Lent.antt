@@ -1,5 +1,5 @@
 -- Lent parts of planes: what a contract sees of a view. This is this project's own; the order of samples is that of
--- TIFF 6.0, section "Image data".
+-- TIFF 6.0, section 8, "PlanarConfiguration" 1.
 use Rattle.std.specs.Prelude.{◌≡◌, ℕ, ◌+◌, ◌-◌, ◌*◌, ◌<◌, ◌≤◌, List, length, slice_index}
 use Rattle.plane_view.specs.declared.Rect.{Rect}
 use Rattle.plane_view.specs.Plane.{Plane, place, sample, samples_of, crop}

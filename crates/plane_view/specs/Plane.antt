@@ -1,5 +1,5 @@
--- Planes of samples, and parts of them. The order of samples is that of TIFF 6.0, section "Image data": row by row, the
--- samples of a pixel side by side.
+-- Planes of samples, and parts of them. The order of samples is that of TIFF 6.0, section 8, "PlanarConfiguration" 1:
+-- row by row, the samples of a pixel side by side.
 use Rattle.std.specs.Prelude.{◌≡◌, ℕ, ◌+◌, ◌-◌, ◌*◌, ◌/◌, ◌%◌, List, length, map, slice_index}
 use Rattle.std.specs.List.{range_with_len}
 use Rattle.plane_view.specs.declared.Rect.{Rect}

@@ -1,4 +1,4 @@
--- Reflection at a plane's edges. This is this project's own: the 2004 paper says nothing of the edges.
+-- Reflection at a plane's edges. This is this project's own: Malvar, He and Cutler (2004) say nothing of the edges.
 use Rattle.std.specs.Prelude.{ℕ, ◌+◌, ◌-◌, ◌*◌, nat_lt, if◌then◌else◌, ℤ, pos, negsuc}
 
 -- the row or column of n that stands for number i, up to 2 outside: -1 stands for 1, and n for n - 2

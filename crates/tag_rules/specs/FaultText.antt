@@ -1,5 +1,5 @@
--- A fault in words and numbers, as a line says it: its name, and its fields in decimal, each after one space. This is
--- this project's own.
+-- What a refusal says: the name of the fault, and its fields in decimal, each after one space. This is this project's
+-- own.
 use Rattle.std.specs.Prelude.{ℕ, List, ◌∷◌, ◌++◌, codes, decimal}
 use Rattle.ljpeg_predict.specs.Faults.{jpeg_fault_text}
 use Rattle.opcode_list.specs.Faults.{fault_text as opcode_fault_text}
@@ -12,7 +12,7 @@ use Rattle.tag_rules.specs.declared.faults.FrameFault.TheVariants.{Memory}
 use Rattle.tag_rules.specs.declared.faults.SegmentFault.{SegmentFault}
 use Rattle.tag_rules.specs.declared.faults.SegmentFault.TheVariants.{Jpeg, Short}
 
--- a field
+-- a field: a space, and a number in decimal
 abbrev pub field : ℕ → List ℕ
 field n = 32 ∷ decimal n
 
@@ -20,10 +20,12 @@ field n = 32 ∷ decimal n
 abbrev pub named : List ℕ → ℕ → List ℕ
 named name n = name ++ field n
 
+-- why a segment can't be decoded
 abbrev pub segment_fault_text : SegmentFault → List ℕ
 segment_fault_text (Short short) = codes "Short" ++ field short.needed ++ field short.had
 segment_fault_text (Jpeg fault) = codes "Jpeg" ++ 32 ∷ jpeg_fault_text fault
 
+-- why a frame is refused
 abbrev pub fault_text : FrameFault → List ℕ
 fault_text NotTiff = codes "NotTiff"
 fault_text (BadDirectory at) = named (codes "BadDirectory") at

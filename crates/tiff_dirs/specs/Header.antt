@@ -8,11 +8,11 @@ use Rattle.tiff_dirs.specs.declared.Order.TheVariants.{Big, Little}
 use Rattle.tiff_dirs.specs.declared.TiffFault.{TiffFault}
 use Rattle.tiff_dirs.specs.declared.TiffFault.TheVariants.{BadDirectory, NotTiff}
 
--- whether a file begins with `II`, and 42 as a 16-bit number whose lowest byte comes first
+-- whether a file begins with `II`, and 42 as a 16-bit number whose least significant byte comes first
 unfoldable pub is_little : List ℕ → Bool
 is_little bytes = starts_with nat_eq bytes (0x49 ∷ 0x49 ∷ 0x2A ∷ 0x00 ∷ [])
 
--- whether a file begins with `MM`, and 42 as a 16-bit number whose highest byte comes first
+-- whether a file begins with `MM`, and 42 as a 16-bit number whose most significant byte comes first
 unfoldable pub is_big : List ℕ → Bool
 is_big bytes = starts_with nat_eq bytes (0x4D ∷ 0x4D ∷ 0x00 ∷ 0x2A ∷ [])
 

@@ -5,7 +5,7 @@ use Rattle.byteorder.specs.Endian.{big_number, little_number}
 use Rattle.tiff_dirs.specs.declared.Order.{Order}
 use Rattle.tiff_dirs.specs.declared.Order.TheVariants.{Big, Little}
 
--- the number in the n bytes from a place on: lowest byte first in II, highest byte first in MM
+-- the number in the n bytes from a place on: the least significant byte first in II, the most significant in MM
 unfoldable pub number_at : Order → ℕ → List ℕ → ℕ → ℕ
 number_at Little n bytes place = little_number n (drop place bytes)
 number_at Big n bytes place = big_number n (drop place bytes)

@@ -3,7 +3,7 @@ use Rattle.std.specs.Prelude.{◌≡◌, ℕ, ◌-◌, ◌^◌, ◌<◌, ◌≤�
 use Rattle.binary_digits.specs.Digits.{bits_of}
 use Rattle.ljpeg_huffman.specs.Differences.{data_bits}
 
--- The bits that are left where some are held, in the lowest bits of a word, before those of the bytes.
+-- The bits that are left where some are held, in the lowest bits of a number, before those of the bytes.
 unfoldable pub bits_left : ℕ → ℕ → List ℕ → List Bool
 bits_left held word bytes = bits_of held word ++ data_bits bytes
 

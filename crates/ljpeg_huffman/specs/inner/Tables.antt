@@ -10,6 +10,6 @@ pub record IsTable (counts values : List ℕ) : Type 0 where
   pub fits : space_from 1 counts ≤ 2 ^ 16
   pub categories : All (λ v. v ≤ 16) values
 
--- The number below which all 16 bits are that begin with a code word of at most 16.
+-- One more than the greatest number of 16 bits that begins with a code word of at most 16 bits.
 abbrev pub high_end : List Bool → ℕ
 high_end word = (number_of word + 1) * 2 ^ (16 - length word)
