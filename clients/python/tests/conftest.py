@@ -45,10 +45,12 @@ def executable(path: Path, text: str) -> Path:
 
 @pytest.fixture(scope="session")
 def rawdev() -> Path:
-    """The program. Where there is none, the tests that need it are skipped."""
+    """The program. Where there is none, the tests that need it are skipped, and fail where the environment names it."""
     try:
         return find_program()
     except NotInstalled as missing:
+        if os.environ.get(VARIABLE):
+            pytest.fail(str(missing), pytrace=False)
         pytest.skip(str(missing))
 
 
