@@ -336,12 +336,18 @@ class TestWrongUse:
         assert names(out) == ["scene.tiff"]
 
     @pytest.mark.parametrize(
-        "words",
-        [["--jobs", "0"], ["--jobs", "many"], ["--jobs", "1", "--cluster", "tcp://127.0.0.1:1"], ["--cell", "16"]],
+        ("words", "said"),
+        [
+            (["--jobs", "0"], "clip: error: argument --jobs: '0' is no whole number of at least 1"),
+            (["--jobs", "many"], "clip: error: argument --jobs: 'many' is no whole number of at least 1"),
+            (["--jobs", "1", "--cluster", "tcp://127.0.0.1:1"], "not allowed with argument --jobs"),
+            (["--cell", "16"], "error: unrecognized arguments: --cell 16"),
+        ],
     )
-    def test_words(self, environment: dict[str, str], clip: Path, out: Path, words: list[str]) -> None:
+    def test_words(self, environment: dict[str, str], clip: Path, out: Path, words: list[str], said: str) -> None:
         ended = run(environment, clip, out, *words)
         assert ended.stderr.startswith("usage: malletfern")
+        assert ended.stderr.endswith(f"{said}\n")
         assert ended.returncode == 2
         assert not out.exists()
 

@@ -49,7 +49,7 @@ def test_a_region_under_settings(rawdev: Path, bars: Path, tmp_path: Path) -> No
     """Columns 14 to 21 are the yellow bar's inside; half of 49152 is 24576, or 96 of 255."""
     settings, picture = tmp_path / "darker.toml", tmp_path / "out.png"
     settings.write_text("exposure = 512\n")
-    words = [str(bars), "14", "2", "8", "30", "--settings", str(settings), "--out", str(picture)]
+    words = [str(bars), "--settings", str(settings), "--region", "14", "2", "8", "30", "--out", str(picture)]
     assert main(["show", *words]) == 0
     colours = colours_of(picture)
     assert count(colours, 96, 96, 0) > 20000
@@ -59,8 +59,7 @@ def test_a_region_under_settings(rawdev: Path, bars: Path, tmp_path: Path) -> No
 @pytest.mark.parametrize(
     ("words", "status", "said"),
     [
-        (["bars", "0", "0", "97", "1"], 1, "malletfern: no region"),
-        (["bars", "0", "0"], 2, "malletfern: a region is four numbers, X Y W H"),
+        (["bars", "--region", "0", "0", "97", "1"], 1, "malletfern: no region"),
         (["none"], 1, "malletfern: rawdev ended with status 4"),
         (["frame"], 1, "malletfern: refused NotTiff"),
         (["bars", "--out", "none/out.png"], 1, "malletfern: [Errno 2] No such file or directory"),
@@ -82,6 +81,14 @@ def test_refused(
     assert main(["show", *words]) == status
     assert capsys.readouterr().err.startswith(said)
     assert sorted(path.name for path in tmp_path.iterdir()) == ["bars", "frame"]
+
+
+@pytest.mark.parametrize("region", [["0", "0"], ["0", "0", "1", "1", "1"], ["0", "0", "1", "one"]])
+def test_no_four_numbers(bars: Path, capsys: pytest.CaptureFixture[str], region: list[str]) -> None:
+    with pytest.raises(SystemExit) as ended:
+        main(["show", str(bars), "--region", *region])
+    assert ended.value.code == 2
+    assert capsys.readouterr().err.startswith("usage: malletfern")
 
 
 def test_no_matplotlib(rawdev: Path, bars: Path, environment: dict[str, str], tmp_path: Path) -> None:

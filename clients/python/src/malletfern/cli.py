@@ -39,10 +39,8 @@ def _clip(options: argparse.Namespace) -> int:
 
 
 def _show(options: argparse.Namespace) -> int:
-    if len(options.region) not in (0, 4):
-        raise WrongUse("a region is four numbers, X Y W H")
     out = options.out or Path(f"{options.frame.stem}.show.png")
-    show(options.frame, out, options.region or None, options.settings)
+    show(options.frame, out, options.region, options.settings)
     print(out)
     return 0
 
@@ -56,21 +54,32 @@ def _parser() -> argparse.ArgumentParser:
     clip.add_argument("target", metavar="OUT", type=Path, help="the folder of the images; it is made if need be")
     clip.add_argument("--settings", metavar="FILE", type=Path, help="a settings file for all frames")
     places = clip.add_mutually_exclusive_group()
-    places.add_argument("--jobs", metavar="N", type=_count, help="how many frames at a time (as there are cores)")
+    places.add_argument(
+        "--jobs", metavar="N", type=_count, help="how many frames at a time (default: the number of cores)"
+    )
     places.add_argument("--cluster", metavar="ADDRESS", help="the Dask scheduler whose workers develop the frames")
     clip.set_defaults(run=_clip)
 
     look = commands.add_parser("show", help="write a PNG of a region and its three histograms")
     look.add_argument("frame", metavar="FRAME", type=Path, help="a DNG file")
-    look.add_argument("region", metavar="N", type=int, nargs="*", help="the region, X Y W H (the whole plane)")
-    look.add_argument("--settings", metavar="FILE", type=Path, help="a settings file (the root curve)")
-    look.add_argument("--out", metavar="FILE", type=Path, help="the PNG (FRAME.show.png in this folder)")
+    look.add_argument(
+        "--region",
+        metavar=("X", "Y", "W", "H"),
+        type=int,
+        nargs=4,
+        help="W columns from column X and H rows from row Y (default: the whole plane)",
+    )
+    look.add_argument("--settings", metavar="FILE", type=Path, help="a settings file (default: the root curve)")
+    look.add_argument("--out", metavar="FILE", type=Path, help="the PNG (default: FRAME.show.png in this folder)")
     look.set_defaults(run=_show)
     return parser
 
 
 def _count(word: str) -> int:
-    count = int(word)
+    try:
+        count = int(word)
+    except ValueError:
+        count = 0
     if count < 1:
-        raise ValueError(word)
+        raise argparse.ArgumentTypeError(f"{word!r} is no whole number of at least 1")
     return count

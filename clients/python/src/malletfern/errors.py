@@ -135,7 +135,7 @@ class NotInstalled(MalletfernError):
 
 
 class WrongUse(MalletfernError):
-    """What was asked for can't be begun: a folder, a file, an address or a region is wrong. The text says which."""
+    """What was asked for can't be begun: a folder, a file or an address is wrong. The text says which."""
 
 
 def _signal_name(number: int) -> str:
