@@ -101,10 +101,12 @@ class TestSet:
     def test_the_session_of_the_readme(self, rawdev: Path, bars: Path) -> None:
         with Session(bars) as session:
             assert session.region(18, 20, 1, 1).tolist() == [[[0xC000, 0xC000, 0]]]
+            assert session.stat() == Counts(fetched=1, ran=7, kept=110592, budget=2**28)
             session.set("exposure", 512)
             assert session.region(18, 20, 1, 1).tolist() == [[[0x6000, 0x6000, 0]]]
             session.set("tone", "root")
             assert session.region(18, 20, 1, 1).tolist() == [[[0x9CC4, 0x9CC4, 0]]]
+            assert session.stat() == Counts(fetched=1, ran=11, kept=184320, budget=2**28)
 
     @pytest.mark.parametrize(
         ("words", "name"),
