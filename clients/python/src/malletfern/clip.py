@@ -25,7 +25,7 @@ DONE = frozenset({Ending.DEVELOPED, Ending.THERE})
 
 SETTLED = DONE | {Ending.REFUSED}
 
-# What each later frame would come to as well.
+# Endings that every later frame would share.
 SHARED = frozenset({Ending.FULL, Ending.WRONG})
 
 Work: TypeAlias = concurrent.futures.Future[Outcome]
