@@ -3,11 +3,12 @@
 
 It reads the files that git doesn't ignore, and looks at seven things:
 
-- each name that a `use` takes from a file of specs/ or proofs/ of this repository stands in that file;
+- each name that a `use` takes from a file of specs/ or proofs/ of this repository stands in that file, and each crate
+  that one names is of this repository or of the kit;
 - the old line of each must-fail edit stands exactly once in its file, and the new one differs from it;
-- each path of a crate that a document names is there;
+- each path that a document names is there, and in CONTRIBUTING.md each path of a crate is one of some crate;
 - each library that `crates.txt` gives a crate stands in its sources;
-- no two files of proofs/ state the same lemma, whatever its name and those of its variables;
+- no two lemmas state the same, whatever their names and those of their variables;
 - no line of code, proofs, tools or prose passes 120 columns, but for attributes, which `rt fmt` joins, for tables and
   for what a program printed;
 - no file of code or proofs passes 800 lines.
@@ -23,12 +24,17 @@ from pathlib import Path
 COLUMNS = 120
 LINES = 800
 TOP = Path(__file__).resolve().parent.parent
+# The language's own crates, and those of the kit that the repository uses.
+KIT = frozenset({"core", "std", "std_alloc", "std_collections", "byteorder", "clap", "itoa", "lru", "toml"})
+FOLDERS = (".ci", "clients", "crates", "docs", "samples", "tools")
+CRATE_FOLDERS = ("proofs", "specs", "src")
+COMMENTS = {".antt": re.compile("--.*"), ".rt": re.compile("//.*")}
 USE = re.compile(r"\buse Rattle\.([^{}\s]+)\.\{([^}]*)\}")
 # Files that the toolchain writes: types, contracts and goals as proofs see them.
 WRITTEN = re.compile(r"\.(declared|contracts|Given|Goals)(\.|$)")
 LEMMA = re.compile(r"^(?:pub )?([^\s(){},:]+) : ((?:.*\n)(?:[ \t]+.*\n)*)", re.M)
 WORD = re.compile(r"[A-Za-z_'][\w'-]*")
-DOCUMENTED = re.compile(r"`((?:crates/|docs/|samples/|tools/|clients/)?[\w+]+(?:/[\w+.]+)+)/?`")
+DOCUMENTED = re.compile(r"`([\w.+-]+(?:/[\w.+-]+)+)/?`|\]\(([\w./-]+)\)")
 
 
 def files(*endings):
@@ -38,17 +44,24 @@ def files(*endings):
     return [TOP / name for name in names if name.endswith(endings) and (TOP / name).is_file()]
 
 
+def code_of(path):
+    """The text of a file of code or proofs without its comments."""
+    return COMMENTS[path.suffix].sub("", path.read_text())
+
+
 def unknown_names(path, crates):
-    """The names that a file takes from where they don't stand."""
-    for module, names in USE.findall(path.read_text()):
+    """The names that a file imports from one that doesn't have them."""
+    for module, names in USE.findall(code_of(path)):
         crate, _, place = module.partition(".")
+        if crate not in crates and crate not in KIT:
+            yield f"{crate} is no crate"
         if crate not in crates or WRITTEN.search(module):
             continue
         target = TOP / "crates" / crate / (place.replace(".", "/") + ".antt")
         if not target.is_file():
             yield f"{module} is no file"
             continue
-        words = set(re.split(r"[\s(){},;]+", target.read_text()))
+        words = set(re.split(r"[\s(){},;]+", code_of(target)))
         for name in names.split(","):
             word = name.split(" as ")[0].strip()
             if word and word not in words:
@@ -70,17 +83,24 @@ def lost_edits(path):
 
 
 def lost_paths(path, crates):
-    """The paths of crates and folders that a document names and that aren't there."""
-    for name in DOCUMENTED.findall(path.read_text()):
+    """The paths that a document names and that aren't there: of crates, of folders at the top, of links; and in
+    CONTRIBUTING.md those of a crate that no crate has."""
+    for name, link in DOCUMENTED.findall(path.read_text()):
         first, _, rest = name.partition("/")
-        if first in crates:
+        if link:
+            file = path.parent / link
+        elif first in crates:
             file = TOP / "crates" / name
-        elif first in ("crates", "docs", "samples", "tools", "clients") and "NAME" not in rest:
+        elif first in FOLDERS and "NAME" not in rest:
             file = TOP / name
+        elif first in CRATE_FOLDERS and path.name == "CONTRIBUTING.md":
+            if not any((TOP / "crates" / crate / name).exists() for crate in crates):
+                yield f"no crate has {name}"
+            continue
         else:
             continue
         if not file.exists() and not is_ignored(file):
-            yield f"{name} isn't there"
+            yield f"{name or link} isn't there"
 
 
 def unused_libraries():
@@ -90,7 +110,7 @@ def unused_libraries():
         if not colon or crate.startswith("#"):
             continue
         folder = TOP / "crates" / crate
-        text = "\n".join(path.read_text() for path in files(".rt", ".antt") if folder in path.parents)
+        text = "\n".join(code_of(path) for path in files(".rt", ".antt") if folder in path.parents)
         for library in libraries.split():
             if not re.search(rf"\b{library}::|\bRattle\.{library}\b", text):
                 yield f"{crate} doesn't name {library}"
@@ -111,23 +131,21 @@ def statement(text):
 
 
 def lemmas_twice():
-    """The lemmas that state what one of an earlier file does, with their files."""
+    """The lemmas that state what an earlier one does, with their files. Those inside a `module` aren't compared."""
     first = {}
     for path in files(".antt"):
-        if "proofs" not in path.parts:
-            continue
         text = re.sub(r"^\s*--.*\n", "", path.read_text(), flags=re.M)
-        for name, stated in LEMMA.findall(text):
+        for name, stated in LEMMA.findall(COMMENTS[".antt"].sub("", text)):
             # a goal's answer, and a definition, which has no variable
-            if name == "use" or "goal." in stated or "(" not in stated or "≡" not in stated:
+            if name == "use" or "goal." in stated or "(" not in stated:
                 continue
             other, word = first.setdefault(statement(stated), (path, name))
-            if other != path:
+            if (other, word) != (path, name):
                 yield path, f"{name} states what {word} of {other.relative_to(TOP)} does"
 
 
 def is_ignored(file):
-    """Whether git knows a file as one that is built."""
+    """Whether git ignores the file."""
     return subprocess.run(["git", "check-ignore", "-q", file], cwd=TOP, check=False).returncode == 0
 
 
