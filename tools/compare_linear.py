@@ -6,21 +6,23 @@ neutral, so that each pixel's own colour in the image is the linear value of its
 row and column are even, blue where both are odd, else green. Ends with status 1 where a sample differs.
 """
 
+import argparse
+import shutil
 import struct
 import subprocess
 import sys
 import tempfile
 
-import linear_values
+from linear_values import Levels, values
+from tiff import BYTE, LONG, RATIONAL, SHORT, SRATIONAL, STRIP_OFFSETS, over, written
 
 ROWS, COLS = 4, 4096
 LEVELS = {
-    "black 256, white 4095": ([], 1, 1, [65536], [], [], 4095, None, None),
-    "a pattern with deltas of both kinds": (
-        [], 2, 2, [65536, 66000, 64000, 65537], [c % 601 - 300 for c in range(COLS)], [512, 0, -513, 100], 4000,
-        None, None,
+    "black 256, white 4095": Levels([65536], 4095),
+    "a pattern with deltas of both kinds": Levels(
+        [65536, 66000, 64000, 65537], 4000, 2, 2, [c % 601 - 300 for c in range(COLS)], [512, 0, -513, 100]
     ),
-    "a table": ([v * v // 273 for v in range(4000)], 1, 1, [768], [], [], 58000, None, None),
+    "a table": Levels([768], 58000, table=[v * v // 273 for v in range(4000)]),
 }
 
 
@@ -29,46 +31,35 @@ def samples():
     return [(c * (2 * r + 1) * 5 + 1000 * r) % COLS for r in range(ROWS) for c in range(COLS)]
 
 
-def packed(values):
-    pairs = zip(values[::2], values[1::2])
+def packed(numbers):
+    """The bytes of samples of 12 bits, of which there is an even number in each row."""
+    pairs = zip(numbers[::2], numbers[1::2])
     return b"".join((a << 12 | b).to_bytes(3, "big") for a, b in pairs)
 
 
-def frame(case, strip):
-    """A file in little-endian order, whose levels are those of a case: 256ths as fractions."""
-    table, rows, cols, black, delta_h, delta_v, white, _, _ = case
-
-    def shorts(*values):
-        return 3, len(values), struct.pack(f"<{len(values)}H", *values)
-
-    def signed(values):
-        return 10, len(values), b"".join(struct.pack("<ii", v, 256) for v in values)
-
-    entries = {
-        256: shorts(COLS), 257: shorts(ROWS), 258: shorts(12), 259: shorts(1), 262: shorts(32803),
-        273: (4, 1, None), 279: (4, 1, struct.pack("<I", len(strip))),
-        33421: shorts(2, 2), 33422: (1, 4, bytes([0, 1, 1, 2])), 50706: (1, 4, bytes([1, 4, 0, 0])),
-        50713: shorts(rows, cols),
-        50714: (5, len(black), b"".join(struct.pack("<II", v, 256) for v in black)), 50717: shorts(white),
-    }
-    if table:
-        entries[50712] = shorts(*table)
-    if delta_h:
-        entries[50715] = signed(delta_h)
-    if delta_v:
-        entries[50716] = signed(delta_v)
-    start = 8 + 2 + 12 * len(entries) + 4
-    tail = b"".join(value for _, (_, _, value) in sorted(entries.items()) if value and len(value) > 4)
-    entries[273] = 4, 1, struct.pack("<I", start + len(tail))
-    directory, at = struct.pack("<H", len(entries)), start
-    for tag, (kind, count, value) in sorted(entries.items()):
-        directory += struct.pack("<HHI", tag, kind, count)
-        if len(value) > 4:
-            directory += struct.pack("<I", at)
-            at += len(value)
-        else:
-            directory += value.ljust(4, b"\0")
-    return b"II" + struct.pack("<HI", 42, 8) + directory + struct.pack("<I", 0) + tail + strip
+def frame(levels, strip):
+    """A file in little-endian order that has these levels: 256ths as fractions."""
+    entries = [
+        (256, SHORT, [COLS]),  # ImageWidth
+        (257, SHORT, [ROWS]),  # ImageLength
+        (258, SHORT, [12]),  # BitsPerSample
+        (259, SHORT, [1]),  # Compression
+        (262, SHORT, [32803]),  # PhotometricInterpretation: a colour filter array
+        (STRIP_OFFSETS, LONG, [0]),
+        (279, LONG, [len(strip)]),  # StripByteCounts
+        (33421, SHORT, [2, 2]),  # CFARepeatPatternDim
+        (33422, BYTE, [0, 1, 1, 2]),  # CFAPattern
+        (50706, BYTE, [1, 4, 0, 0]),  # DNGVersion
+        (50713, SHORT, [levels.black_rows, levels.black_cols]),  # BlackLevelRepeatDim
+        (50714, RATIONAL, over(levels.black, 256)),  # BlackLevel
+        (50717, SHORT, [levels.white]),  # WhiteLevel
+    ]
+    lists = [
+        (50712, SHORT, levels.table),  # LinearizationTable
+        (50715, SRATIONAL, over(levels.delta_h, 256)),  # BlackLevelDeltaH
+        (50716, SRATIONAL, over(levels.delta_v, 256)),  # BlackLevelDeltaV
+    ]
+    return written(entries + [entry for entry in lists if entry[2]], [strip])
 
 
 def image(rawdev, data):
@@ -84,20 +75,30 @@ def image(rawdev, data):
     return struct.unpack(f">{3 * ROWS * COLS}H", reply[-count:])
 
 
-def main(rawdev):
-    values = samples()
-    linear_values.ROWS, linear_values.COLS, linear_values.SAMPLES = ROWS, COLS, values
+def program(word):
+    """The program of a word of the command line."""
+    found = shutil.which(word)
+    if found is None:
+        raise argparse.ArgumentTypeError(f"{word} can't be run")
+    return found
+
+
+def main():
+    parser = argparse.ArgumentParser(description="Compares what a built rawdev writes with linear values.")
+    parser.add_argument("rawdev", metavar="RAWDEV", type=program, help="the built program")
+    rawdev = parser.parse_args().rawdev
+    raw = samples()
     differing = 0
-    for name, case in LEVELS.items():
-        wanted, got = linear_values.values(case), image(rawdev, frame(case, packed(values)))
+    for name, levels in LEVELS.items():
+        wanted, got = values(levels, ROWS, COLS, raw), image(rawdev, frame(levels, packed(raw)))
         own = [got[3 * (r * COLS + c) + r % 2 + c % 2] for r in range(ROWS) for c in range(COLS)]
         wrong = [k for k in range(ROWS * COLS) if own[k] != wanted[k]]
         differing += len(wrong)
         print(f"{name}: {len(own)} samples, {len(set(own))} values, {len(wrong)} differ")
         for k in wrong[:3]:
-            print(f"  row {k // COLS}, column {k % COLS}: sample {values[k]}, linear {wanted[k]}, written {own[k]}")
+            print(f"  row {k // COLS}, column {k % COLS}: sample {raw[k]}, linear {wanted[k]}, written {own[k]}")
     return 1 if differing else 0
 
 
 if __name__ == "__main__":
-    sys.exit(main(sys.argv[1]))
+    sys.exit(main())

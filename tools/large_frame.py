@@ -8,6 +8,7 @@ colours, a time code and a frame rate. Pixels come from the formulas: linear val
 half up, and is held within 0 and 65535; the root is rounded down. Ends with status 1 where a byte differs.
 """
 
+import argparse
 import functools
 import math
 import struct
@@ -16,9 +17,10 @@ import sys
 import tempfile
 from pathlib import Path
 
-import compare_linear
-import linear_values
 import malvar_table
+from compare_linear import packed, program
+from linear_values import Levels, values
+from tiff import ASCII, BYTE, LONG, RATIONAL, SHORT, SRATIONAL, STRIP_OFFSETS, over, written
 
 ROWS, COLS = 2160, 4096
 BLACK, WHITE = 256, 4095
@@ -34,23 +36,14 @@ NEUTRAL = [500, 1000, 625]
 
 SCRIPT = b"region 0 0 64 64 ppm\nregion 4079 2143 1 1 tiff\nregion 4080 0 1 1 ppm\n\nregion 2000 1000 10 10 ppm"
 
-# TIFF 6.0, section 2: types.
-BYTE, ASCII, SHORT, LONG, RATIONAL, SRATIONAL = 1, 2, 3, 4, 5, 10
-LETTERS = {BYTE: "B", ASCII: "B", SHORT: "H", LONG: "I", RATIONAL: "I", SRATIONAL: "i"}
-STRIP_OFFSETS = 273
-
 
 def sample(r, c):
     """A wave across the rows and columns, and on it steps that have each value from 0 to 4095."""
     return ((r * c >> 3) + 5 * (r + c) + 677 * (r % 5) * (c % 7)) % 4096
 
 
-def over(numbers, denominator):
-    return [n for number in numbers for n in (number, denominator)]
-
-
 def tags(strip):
-    """Tag, type and numbers of each entry of directory 0, whose strip's offset is put in later."""
+    """Tag, type and numbers of each entry of directory 0, with the number of the strip in place of its offset."""
     return [
         (254, LONG, [0]),  # NewSubFileType
         (256, SHORT, [COLS]),  # ImageWidth
@@ -84,30 +77,10 @@ def tags(strip):
     ]
 
 
-def frame(strip):
-    """The bytes of the file, in little-endian order: header, directory 0, the longer values, the strip."""
-    entries = tags(strip)
-    values = [struct.pack(f"<{len(numbers)}{LETTERS[kind]}", *numbers) for _, kind, numbers in entries]
-    at = 8 + 2 + 12 * len(entries) + 4
-    strip_at = at + sum(len(v) + len(v) % 2 for v in values if len(v) > 4)
-    directory, tail = struct.pack("<H", len(entries)), b""
-    for (tag, kind, numbers), value in zip(entries, values):
-        if tag == STRIP_OFFSETS:
-            value = struct.pack("<I", strip_at)
-        count = len(numbers) // 2 if kind in (RATIONAL, SRATIONAL) else len(numbers)
-        if len(value) > 4:
-            place = struct.pack("<I", at + len(tail))
-            tail += value + bytes(len(value) % 2)
-            value = place
-        directory += struct.pack("<HHI", tag, kind, count) + value.ljust(4, b"\0")
-    return b"II" + struct.pack("<HI", 42, 8) + directory + bytes(4) + tail + strip
-
-
 @functools.cache
 def linear_of():
     """The linear value of each sample of 12 bits."""
-    linear_values.ROWS, linear_values.COLS, linear_values.SAMPLES = 1, 4096, range(4096)
-    return linear_values.values(([], 1, 1, [256 * BLACK], [], [], WHITE, None, None))
+    return values(Levels([256 * BLACK], WHITE), 1, 4096, range(4096))
 
 
 @functools.cache
@@ -147,16 +120,23 @@ def pixel(plane, y, x, exposure, tone):
     return [tone(held((sum(m * v for m, v in zip(row, balanced)) + 32768) // 65536)) for row in rows]
 
 
-def tiff_head(w, h):
-    """TIFF 6.0, sections 2 and 6: the head of an image of three samples of 16 bits, 180 bytes."""
+def tiff_image(w, h, samples):
+    """TIFF 6.0, sections 2 and 6: an image of three samples of 16 bits, which follow a head of 180 bytes."""
     entries = [
-        (256, LONG, 1, w), (257, LONG, 1, h), (258, SHORT, 3, 158), (259, SHORT, 1, 1), (262, SHORT, 1, 2),
-        (273, LONG, 1, 180), (277, SHORT, 1, 3), (278, LONG, 1, h), (279, LONG, 1, 6 * w * h),
-        (282, RATIONAL, 1, 164), (283, RATIONAL, 1, 172), (296, SHORT, 1, 2),
+        (256, LONG, [w]),  # ImageWidth
+        (257, LONG, [h]),  # ImageLength
+        (258, SHORT, [16, 16, 16]),  # BitsPerSample
+        (259, SHORT, [1]),  # Compression
+        (262, SHORT, [2]),  # PhotometricInterpretation: RGB
+        (STRIP_OFFSETS, LONG, [0]),
+        (277, SHORT, [3]),  # SamplesPerPixel
+        (278, LONG, [h]),  # RowsPerStrip
+        (279, LONG, [6 * w * h]),  # StripByteCounts
+        (282, RATIONAL, [72, 1]),  # XResolution
+        (283, RATIONAL, [72, 1]),  # YResolution
+        (296, SHORT, [2]),  # ResolutionUnit: the inch
     ]
-    directory = b"".join(struct.pack("<HHII", *entry) for entry in entries)
-    head = b"II" + struct.pack("<HIH", 42, 8, len(entries)) + directory + bytes(4)
-    return head + struct.pack("<3H4I", 16, 16, 16, 72, 1, 72, 1)
+    return written(entries, [struct.pack(f"<{len(samples)}H", *samples)])
 
 
 def reply(plane, line, exposure, tone):
@@ -171,20 +151,19 @@ def reply(plane, line, exposure, tone):
     if words[5] == b"ppm":
         image = b"P6\n%d %d\n65535\n" % (w, h) + struct.pack(f">{len(samples)}H", *samples)
     else:
-        image = tiff_head(w, h) + struct.pack(f"<{len(samples)}H", *samples)
+        image = tiff_image(w, h, samples)
     return b"image %d\n" % len(image) + image
 
 
 SETTINGS = {
     "standard settings": ("", 1024, lambda v: v),
-    "more light and the root curve": (
-        'exposure = 1448\ntone = "root"\n', 1448, lambda v: math.isqrt(v * 65535),
-    ),
+    "more light and the root curve": ('exposure = 1448\ntone = "root"\n', 1448, lambda v: math.isqrt(v * 65535)),
 }
 
 
 def differences(rawdev, name, folder, text, exposure, tone):
-    """How many bytes differ of the replies to the script under settings, and of their number."""
+    """How many bytes of the replies to the script differ under settings, and how many there are too many or too few. A
+    status other than 0 counts too."""
     settings = folder / "settings.toml"
     settings.write_text(text)
     run = subprocess.run([rawdev, name, "--settings", settings], input=SCRIPT, stdout=subprocess.PIPE)
@@ -201,18 +180,22 @@ def differences(rawdev, name, folder, text, exposure, tone):
     return differing + abs(len(got) - at)
 
 
-def main(rawdev, kept=None):
-    strip = b"".join(compare_linear.packed([sample(r, c) for c in range(COLS)]) for r in range(ROWS))
+def main():
+    parser = argparse.ArgumentParser(description="Compares what a built rawdev writes of a large frame with formulas.")
+    parser.add_argument("rawdev", metavar="RAWDEV", type=program, help="the built program")
+    parser.add_argument("frame", metavar="FRAME", type=Path, nargs="?", help="where the frame is left")
+    options = parser.parse_args()
+    strip = b"".join(packed([sample(r, c) for c in range(COLS)]) for r in range(ROWS))
     assert len(strip) == 13271040
     differing = 0
     with tempfile.TemporaryDirectory() as folder:
-        name = Path(kept) if kept else Path(folder) / "large.dng"
-        name.write_bytes(frame(strip))
+        name = options.frame or Path(folder) / "large.dng"
+        name.write_bytes(written(tags(strip), [strip]))
         for said, (text, exposure, tone) in SETTINGS.items():
             print(said)
-            differing += differences(rawdev, name, Path(folder), text, exposure, tone)
+            differing += differences(options.rawdev, name, Path(folder), text, exposure, tone)
     return 1 if differing else 0
 
 
 if __name__ == "__main__":
-    sys.exit(main(*sys.argv[1:]))
+    sys.exit(main())

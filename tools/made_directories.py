@@ -1,6 +1,7 @@
 #!/usr/bin/env python3
 """Prints the file that `written` in `frame_tests` compares with, in both byte orders: directory 0 with values of each
 kind, a further directory whose entry lies about its count, and two bytes of data. TIFF 6.0, section 2."""
+
 import struct
 
 
@@ -38,8 +39,13 @@ def made(mark, order):
     return header + directory(8, first) + directory(second_at, second) + bytes([9, 8])
 
 
-for mark, order in ((b"II", "<"), (b"MM", ">")):
-    file = made(mark, order)
-    print(mark.decode(), len(file))
-    for at in range(0, len(file), 16):
-        print("    " + ", ".join("0x%02X" % byte for byte in file[at : at + 16]) + ",")
+def main():
+    for mark, order in ((b"II", "<"), (b"MM", ">")):
+        file = made(mark, order)
+        print(mark.decode(), len(file))
+        for at in range(0, len(file), 16):
+            print("    " + ", ".join("0x%02X" % byte for byte in file[at : at + 16]) + ",")
+
+
+if __name__ == "__main__":
+    main()

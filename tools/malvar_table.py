@@ -1,6 +1,8 @@
 #!/usr/bin/env python3
-"""Pixels after Malvar, He and Cutler (2004, figure 2), and by means of the nearest samples, straight from the
-formula: the table of `demosaic` in `stage_tests`.
+"""Prints pixels after Malvar, He and Cutler (2004, figure 2), and by means of the nearest samples, straight from the
+formula: the table of `demosaic` in `stage_tests`, whose columns are the kind, the number of the pattern, the row, the
+column and the pixel; and then the four pixels of `bright_red` there, of a plane that is dark but for one red site, as
+row, column and the pixel in hexadecimal.
 
 Each missing colour is a weighted sum in sixteenths, rounded to the nearest (a half up), held within 0 and 65535. A
 row or column outside the plane is read at its mirror image, -1 at 1 and n at n - 2.

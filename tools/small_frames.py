@@ -5,6 +5,8 @@ The sample at row r, column c is (4099 * (r % period) + 641 * c) % 2 ** depth, a
 are a string of binary digits (TIFF 6.0, sections 8 and 15; DNG 1.6, chapter 4).
 """
 
+from tiff import BYTE, LONG, SHORT, STRIP_OFFSETS, TILE_OFFSETS, written
+
 ROWS, COLS = 6, 7
 
 
@@ -13,7 +15,7 @@ def row_bytes(samples, depth, order):
         return b"".join(s.to_bytes(2, order) for s in samples)
     digits = "".join(f"{s:0{depth}b}" for s in samples)
     digits += "1" * (-len(digits) % 8)
-    return bytes(int(digits[i:i + 8], 2) for i in range(0, len(digits), 8))
+    return bytes(int(digits[i : i + 8], 2) for i in range(0, len(digits), 8))
 
 
 def frame(depth, order, rows, cols, shared=False, short=0):
@@ -24,57 +26,61 @@ def frame(depth, order, rows, cols, shared=False, short=0):
 
     def sample(r, c):
         inside = r < ROWS and c < COLS
-        return (4099 * (r % period) + 641 * c) % 2 ** depth if inside else 2 ** depth - 1
+        return (4099 * (r % period) + 641 * c) % 2**depth if inside else 2**depth - 1
 
     segments = []
     for top in range(0, ROWS, rows):
         for left in range(0, COLS, width):
             bottom = top + rows if cols else min(top + rows, ROWS)
-            segments.append(b"".join(row_bytes([sample(r, c) for c in range(left, left + width)], depth, order)
-                                     for r in range(top, bottom)))
+            samples = [[sample(r, c) for c in range(left, left + width)] for r in range(top, bottom)]
+            segments.append(b"".join(row_bytes(row, depth, order) for row in samples))
 
-    def number(n, size):
-        return n.to_bytes(size, order)
-
-    def entry(tag, kind, values):
-        size = {1: 1, 3: 2, 4: 4}[kind]
-        return [tag, kind, len(values), b"".join(number(v, size) for v in values)]
-
-    entries = [entry(256, 4, [COLS]), entry(257, 4, [ROWS]), entry(258, 3, [depth]), entry(262, 3, [32803]),
-               entry(33421, 3, [2, 2]), entry(33422, 1, [0, 1, 1, 2]), entry(50706, 1, [1, 4, 0, 0])]
-    if cols:
-        entries += [entry(322, 3, [cols]), entry(323, 3, [rows])]
-    else:
-        entries += [entry(278, 3, [rows])]
-    counts = [len(s) for s in segments]
-    counts[-1] -= short
-    start = 8 + 2 + 12 * (len(entries) + 2) + 4
+    entries = [
+        (256, LONG, [COLS]),  # ImageWidth
+        (257, LONG, [ROWS]),  # ImageLength
+        (258, SHORT, [depth]),  # BitsPerSample
+        (262, SHORT, [32803]),  # PhotometricInterpretation: a colour filter array
+        (33421, SHORT, [2, 2]),  # CFARepeatPatternDim
+        (33422, BYTE, [0, 1, 1, 2]),  # CFAPattern
+        (50706, BYTE, [1, 4, 0, 0]),  # DNGVersion
+    ]
     count = len(segments)
-    places, at = [], start + (4 * count if count > 1 else 0) + (2 * count if count > 2 else 0)
-    for s in segments:
-        places.append(at)
-        at += len(s)
-    if shared:
-        places = [places[-1]] * len(places)
-    entries += [entry(324 if cols else 273, 4, places), entry(325 if cols else 279, 3, counts)]
-    directory, tail = number(len(entries), 2), b""
-    for tag, kind, count, value in sorted(entries):
-        if len(value) > 4:
-            tail, value = tail + value, number(start + len(tail), 4)
-        directory += number(tag, 2) + number(kind, 2) + number(count, 4) + value.ljust(4, b"\0")
-    head = (b"II" if order == "little" else b"MM") + number(42, 2) + number(8, 4)
-    return head + directory + number(0, 4) + tail + b"".join(segments)
+    numbers = [count - 1] * count if shared else list(range(count))
+    lengths = [len(segment) for segment in segments]
+    lengths[-1] -= short
+    if cols:
+        entries += [(322, SHORT, [cols]), (323, SHORT, [rows]), (TILE_OFFSETS, LONG, numbers), (325, SHORT, lengths)]
+    else:
+        entries += [(278, SHORT, [rows]), (STRIP_OFFSETS, LONG, numbers), (279, SHORT, lengths)]
+    return written(entries, segments, "<" if order == "little" else ">")
 
 
 def literal(data):
-    lines = ["".join(f"\\x{b:02X}" for b in data[i:i + 24]) for i in range(0, len(data), 24)]
+    lines = ["".join(f"\\x{b:02X}" for b in data[i : i + 24]) for i in range(0, len(data), 24)]
     return 'b"' + "\\\n        ".join(lines) + '"'
 
 
-CASES = [(8, "little", 2, 0), (9, "big", 4, 4), (10, "big", 4, 0), (11, "little", 3, 5), (12, "little", 4, 4),
-         (13, "little", 1, 0), (14, "big", 6, 0), (15, "little", 16, 16), (16, "little", 4, 0), (16, "big", 5, 3)]
+# Depth, byte order, and the rows and columns of a segment: 0 columns for strips.
+CASES = [
+    (8, "little", 2, 0),
+    (9, "big", 4, 4),
+    (10, "big", 4, 0),
+    (11, "little", 3, 5),
+    (12, "little", 4, 4),
+    (13, "little", 1, 0),
+    (14, "big", 6, 0),
+    (15, "little", 16, 16),
+    (16, "little", 4, 0),
+    (16, "big", 5, 3),
+]
 
-for case in CASES:
-    print(f"depth {case[0]}, period 6:\n{literal(frame(*case))}")
-print(f"depth 16, period 3:\n{literal(frame(16, 'little', 3, 0, shared=True))}")
-print(f"Segment 1, Short 22 21:\n{literal(frame(12, 'little', 4, 0, short=1))}")
+
+def main():
+    for case in CASES:
+        print(f"depth {case[0]}, period 6:\n{literal(frame(*case))}")
+    print(f"depth 16, period 3:\n{literal(frame(16, 'little', 3, 0, shared=True))}")
+    print(f"Segment 1, Short 22 21:\n{literal(frame(12, 'little', 4, 0, short=1))}")
+
+
+if __name__ == "__main__":
+    main()
