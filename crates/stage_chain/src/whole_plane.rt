@@ -3,6 +3,7 @@
 ghost use Rattle.std.specs.Prelude.{◌≡◌, ◌+◌, ◌-◌, ◌*◌, ◌≤◌, ◌<◌, length, take, drop, IfOk, OnErr, OnOk};
 ghost use Rattle.plane_view.specs.Plane.{IsWhole};
 ghost use Rattle.plane_view.specs.Shapes.{IsShape};
+ghost use Rattle.stage_core.specs.Bases.{raised};
 ghost use Rattle.stage_core.specs.Planes.{IsPlane};
 ghost use Rattle.stage_core.specs.Stages.{shape_of};
 ghost use Rattle.stage_chain.specs.inner.Samples.{sample_count};
@@ -52,7 +53,11 @@ impl WholePlane {
     ) -> Result<WholePlane, AllocError>
         ensures plane { IfOk result (λ plane. plane ≡ B.plane base.old) }
         ensures fetched { OnOk result (work.new ≡ work.old + length (B.cells_of base.old)) }
+        ensures count { OnOk result (B.fetches base.new ≡ raised (B.fetches base.old) (length (B.cells_of base.old))) }
         ensures none { OnErr result (work.new ≡ work.old) }
+        ensures untouched { OnErr result (base.new ≡ base.old) }
+        ensures base_plane { B.plane base.new ≡ B.plane base.old }
+        ensures base_cells { B.cells_of base.new ≡ B.cells_of base.old }
     {
         let shape = base.shape();
         let mut samples = vec![in alloc; 0u16; sample_count(shape)]?;
