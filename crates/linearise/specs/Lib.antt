@@ -1,6 +1,5 @@
 pub mod Blacks
 pub mod Equal
-pub mod FrameLevels
 pub mod Laws
 pub mod Linear
 pub mod Parameters
