@@ -1,5 +1,8 @@
 //! Pixels of two planes, computed from the formula by tools/malvar_table.py, and parts of a plane against the whole.
 
+ghost use Rattle.std.specs.Prelude.{◌≡◌};
+ghost use Rattle.std.specs.Bool.{Decides};
+ghost use Rattle.malvar.specs.Mosaics.{cfa_of, kind_of};
 ghost use Rattle.malvar.specs.Pattern.{IsBayer};
 
 use super::trial::{fill_with_noise, parts, pixel, rect, shape};
@@ -145,5 +148,27 @@ fn shapes_and_needs(rt: HostRuntime) {
     ] {
         let stage = Demosaic::new(kind, pattern(1));
         assert_eq!(rt; stage.need(shape(6, 7, 1), part), need);
+    }
+}
+
+/// Whether two stages are equal: exactly where the kinds and the patterns are.
+fn same_stages(a: &Demosaic, b: &Demosaic) -> bool
+    ensures { Decides result ((kind_of a.now ≡ kind_of b.now) × (cfa_of a.now ≡ cfa_of b.now)) }
+{
+    a == b
+}
+
+/// Stages of the same kind and pattern are equal, and none other.
+#[test]
+fn equal_stages(rt: HostRuntime) {
+    let stage = Demosaic::new(Kind::Malvar, pattern(1));
+    for (kind, i, want) in [
+        (Kind::Malvar, 1, true),
+        (Kind::Bilinear, 1, false),
+        (Kind::Malvar, 0, false),
+        (Kind::Malvar, 3, false),
+    ] {
+        let other = Demosaic::new(kind, pattern(i));
+        assert_eq!(rt; same_stages(&stage, &other), want, "pattern {i}");
     }
 }
