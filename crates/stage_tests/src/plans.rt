@@ -159,8 +159,8 @@ fn is_refused_alone(alloc: Global, change: &Change, fault: PlanFault) -> Result<
     }
 }
 
-/// Whether two changes give the same stages.
-fn are_alike(alloc: Global, change: &Change, other: &Change) -> Result<bool, AllocError>
+/// Whether two changes give the same stages; `None` where one is refused.
+fn are_alike(alloc: Global, change: &Change, other: &Change) -> Result<Option<bool>, AllocError>
     requires one { ChangeInRange change.now }
     requires other { ChangeInRange other.now }
 {
@@ -168,8 +168,8 @@ fn are_alike(alloc: Global, change: &Change, other: &Change) -> Result<bool, All
         planned(alloc, no_lists(), change)?,
         planned(alloc, no_lists(), other)?,
     ) {
-        (Ok(stages), Ok(others)) => Ok(stages == others),
-        _ => Ok(false),
+        (Ok(stages), Ok(others)) => Ok(Some(stages == others)),
+        _ => Ok(None),
     }
 }
 
@@ -252,10 +252,22 @@ fn plans_lists(rt: HostRuntime) -> Result<(), Fail> {
 fn equal_settings_give_equal_stages(rt: HostRuntime) -> Result<(), Fail> {
     let alloc = rt.alloc();
     let auto = Change::Matrix(MatrixChoice::Auto);
-    assert!(rt; are_alike(alloc, &auto, &Change::Matrix(MatrixChoice::Forward1))?);
-    assert!(rt; !are_alike(alloc, &auto, &Change::Matrix(MatrixChoice::Camera))?);
-    assert!(rt; are_alike(alloc, &auto, &Change::Black(Some(0)))?);
-    assert!(rt; !are_alike(alloc, &auto, &Change::Exposure(1025))?);
+    assert_eq!(rt;
+        are_alike(alloc, &auto, &Change::Matrix(MatrixChoice::Forward1))?,
+        Some(true)
+    );
+    assert_eq!(rt;
+        are_alike(alloc, &auto, &Change::Matrix(MatrixChoice::Camera))?,
+        Some(false)
+    );
+    assert_eq!(rt;
+        are_alike(alloc, &auto, &Change::Black(Some(0)))?,
+        Some(true)
+    );
+    assert_eq!(rt;
+        are_alike(alloc, &auto, &Change::Exposure(1025))?,
+        Some(false)
+    );
     Ok(())
 }
 
