@@ -4,7 +4,7 @@
 mod piece;
 mod tiff;
 
-ghost use Rattle.std.specs.Prelude.{◌≡◌, ◌*◌, ◌≤◌, ◌++◌, length, take, drop};
+ghost use Rattle.std.specs.Prelude.{◌≡◌, ◌*◌, ◌≤◌, length};
 ghost use Rattle.image_out.specs.Image.{ppm_head_of, reply_head_of, pixels_of};
 
 use byteorder::{BigEndian, ByteOrder, LittleEndian};
@@ -37,38 +37,6 @@ pub fn reply_line(n: u64) -> Line
     line.push_field(n);
     line.end();
     line
-}
-
-/// Writes the head of a binary portable pixmap of `w` columns and `h` rows, and gives its length.
-pub fn ppm_head(w: u32, h: u32, out: &mut [u8; 32]) -> usize
-    ensures within { result ≤ 32 }
-    ensures used { result ≡ length (ppm_head_of w h) }
-    ensures head { take result out.new ≡ ppm_head_of w h }
-    ensures rest { drop result out.new ≡ drop result out.old }
-{
-    put(&pixmap_head(w, h), out)
-}
-
-/// Writes the line before an image of `n` bytes, and gives its length.
-pub fn reply_head(n: u64, out: &mut [u8; 32]) -> usize
-    ensures within { result ≤ 32 }
-    ensures used { result ≡ length (reply_head_of n) }
-    ensures head { take result out.new ≡ reply_head_of n }
-    ensures rest { drop result out.new ≡ drop result out.old }
-{
-    put(&reply_line(n), out)
-}
-
-/// Writes a line to the start of the array, and gives its length.
-fn put(line: &Line, out: &mut [u8; 32]) -> usize
-    requires { length line.now ≤ 32 }
-    ensures used { result ≡ length line.now }
-    ensures prefix { take result out.new ≡ line.now }
-    ensures rest { drop result out.new ≡ drop result out.old }
-{
-    let bytes = line.as_bytes();
-    out[..bytes.len()].copy_from_slice(bytes);
-    bytes.len()
 }
 
 /// Writes the bytes of the samples. `out` is twice as long as `samples`.

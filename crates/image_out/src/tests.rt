@@ -1,29 +1,24 @@
 //! Heads, reply lines and samples as bytes, and the piece that is written next.
 
-use super::{
-    Piece, TIFF_HEAD, pixel_bytes, pixmap_head, ppm_head, reply_head, reply_line, tiff_head,
-};
+use super::{Piece, TIFF_HEAD, pixel_bytes, pixmap_head, reply_line, tiff_head};
 use dev_settings::Format;
 use std::alloc::AllocError;
 
 #[test]
 fn writes_heads(rt: HostRuntime) {
-    let mut out = [0; 32];
     for (w, h, want) in [
         (1, 1, "P6\n1 1\n65535\n"),
         (3, 1, "P6\n3 1\n65535\n"),
         (8192, 4096, "P6\n8192 4096\n65535\n"),
     ] {
-        let used = ppm_head(w, h, &mut out);
-        assert_eq!(rt; &out[..used], want.as_bytes(), "{w} by {h}");
+        assert_eq!(rt; pixmap_head(w, h).as_bytes(), want.as_bytes(), "{w} by {h}");
     }
     for (n, want) in [
         (19, "image 19\n"),
         (0, "image 0\n"),
         (18_446_744_073_709_551_615, "image 18446744073709551615\n"),
     ] {
-        let used = reply_head(n, &mut out);
-        assert_eq!(rt; &out[..used], want.as_bytes(), "{n}");
+        assert_eq!(rt; reply_line(n).as_bytes(), want.as_bytes(), "{n}");
     }
 }
 
