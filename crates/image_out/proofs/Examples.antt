@@ -12,11 +12,11 @@ reply_of_nineteen : reply_head_of 19 ≡ codes "image 19\n"
 unfolding Rattle.std.specs.Fmt.digits
 reply_of_nineteen = refl
 
-greater_byte_first : pixels_of Ppm (1600 ∷ 65535 ∷ []) ≡ 6 ∷ 64 ∷ 255 ∷ 255 ∷ []
-greater_byte_first = refl
+most_significant_byte_first : pixels_of Ppm (1600 ∷ 65535 ∷ []) ≡ 6 ∷ 64 ∷ 255 ∷ 255 ∷ []
+most_significant_byte_first = refl
 
-lesser_byte_first : pixels_of Tiff (1600 ∷ 65535 ∷ []) ≡ 64 ∷ 6 ∷ 255 ∷ 255 ∷ []
-lesser_byte_first = refl
+least_significant_byte_first : pixels_of Tiff (1600 ∷ 65535 ∷ []) ≡ 64 ∷ 6 ∷ 255 ∷ 255 ∷ []
+least_significant_byte_first = refl
 
 bytes_of_a_tag_image_file : length (image_of Tiff 1 1 (4660 ∷ 4660 ∷ 4660 ∷ [])) ≡ 186
 unfolding Rattle.image_out.specs.Tiff.tiff_head_of

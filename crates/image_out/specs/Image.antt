@@ -16,7 +16,8 @@ abbrev pub head_of : Format → ℕ → ℕ → List ℕ
 head_of Ppm w h = ppm_head_of w h
 head_of Tiff w h = tiff_head_of w h
 
--- the bytes of the samples, two to a sample: in a pixmap the greater first, in a tag image file the lesser first
+-- the bytes of the samples, two to a sample: in a pixmap the most significant byte first, in a tag image file the least
+-- significant byte first
 abbrev pub pixels_of : Format → List ℕ → List ℕ
 pixels_of Ppm samples = flat_map (to_be_bytes w16) samples
 pixels_of Tiff samples = flat_map (to_le_bytes w16) samples

@@ -1,5 +1,6 @@
--- The head of a tag image file (TIFF 6.0, section 2 and section 6, "RGB Full Color Images"), the lesser byte of each
--- number first. Which entries there are, and that the pixels stand in one strip behind the head, is this project's own.
+-- The head of a tag image file (TIFF 6.0, section 2 and section 6, "RGB Full Color Images"), the least significant
+-- byte of each number first. Which entries there are, and that the pixels stand in one strip behind the head, is this
+-- project's own.
 use Rattle.std.specs.Prelude.{ℕ, ◌*◌, List, [], ◌∷◌, ◌++◌, codes, length}
 use Rattle.std.specs.Int.{to_le_bytes, w16, w32}
 use Rattle.std.specs.List.{flat_map}

@@ -40,7 +40,7 @@ impl Piece {
     ///
     /// # Errors
     ///
-    /// `AllocError` where there is no memory.
+    /// `AllocError` where memory ran out.
     pub fn new(alloc: Global) -> Result<Self, AllocError>
         ensures { IfOk result (λ piece. piece ≡ []) }
     {

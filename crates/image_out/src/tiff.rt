@@ -67,7 +67,7 @@ impl Head {
         self.used = end;
     }
 
-    /// Appends a number of 16 bits, the lesser byte first.
+    /// Appends a number of 16 bits, the least significant byte first.
     fn push_short(&mut self, n: u16)
         requires { length self.old + 2 ≤ 180 }
         ensures bytes { self.new ≡ self.old ++ to_le_bytes w16 n }
@@ -76,7 +76,7 @@ impl Head {
         self.push(&n.to_le_bytes());
     }
 
-    /// Appends a number of 32 bits, the lesser byte first.
+    /// Appends a number of 32 bits, the least significant byte first.
     fn push_long(&mut self, n: u32)
         requires { length self.old + 4 ≤ 180 }
         ensures bytes { self.new ≡ self.old ++ to_le_bytes w32 n }
@@ -128,15 +128,19 @@ fn entries(w: u32, h: u32) -> [Entry; 12]
     ensures { result ≡ entries_of w h }
 {
     [
+        // ImageWidth, ImageLength, BitsPerSample
         field(256, LONG, 1, w),
         field(257, LONG, 1, h),
         field(258, SHORT, 3, 158),
+        // Compression: none; PhotometricInterpretation: RGB
         field(259, SHORT, 1, 1),
         field(262, SHORT, 1, 2),
+        // StripOffsets, SamplesPerPixel, RowsPerStrip, StripByteCounts
         field(273, LONG, 1, 180),
         field(277, SHORT, 1, 3),
         field(278, LONG, 1, h),
         field(279, LONG, 1, h * (6 * w)),
+        // XResolution, YResolution; ResolutionUnit: the inch
         field(282, RATIONAL, 1, 164),
         field(283, RATIONAL, 1, 172),
         field(296, SHORT, 1, 2),
@@ -144,9 +148,9 @@ fn entries(w: u32, h: u32) -> [Entry; 12]
 }
 
 /// Writes the head of a tag image file of `w` columns and `h` rows, red, green and blue of each pixel in 16 bits each.
-/// The samples stand behind it, the lesser byte of each first.
+/// The samples stand behind it, the least significant byte of each first.
 #[tactic(auto, unfolding(crate::specs::Tiff::tiff_head_of))]
-pub fn tiff_head(w: u32, h: u32, out: &mut [u8; 180])
+pub fn tiff_head(w: u32, h: u32, out: &mut [u8; TIFF_HEAD])
     requires cols { w ≤ 8192 }
     requires rows { h ≤ 8192 }
     ensures { out.new ≡ tiff_head_of w h }
