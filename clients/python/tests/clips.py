@@ -8,6 +8,7 @@ import time
 from collections.abc import Callable, Iterator
 from pathlib import Path
 
+from helpers import names
 from made_frames import frame, ramp
 
 COLUMNS, ROWS = 60, 40
@@ -40,10 +41,6 @@ def make_clip(folder: Path) -> None:
     for name in (".hidden.dng", "notes.txt", "dng"):
         (folder / name).write_bytes(b"")
     (folder / "folder.dng").mkdir()
-
-
-def names(folder: Path) -> list[str]:
-    return sorted(path.name for path in folder.iterdir())
 
 
 def own_image(rawdev: Path, name: Path, *options: str) -> bytes:

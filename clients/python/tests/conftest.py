@@ -2,7 +2,6 @@
 
 import collections
 import os
-import stat
 import sys
 from collections.abc import Callable
 from pathlib import Path
@@ -10,11 +9,11 @@ from typing import Any
 
 import pytest
 from clips import make_clip
+from helpers import PACKAGE, executable
 
 from malletfern.errors import NotInstalled
 from malletfern.installed import VARIABLE, find_program
 
-PACKAGE = Path(__file__).parents[1]
 SAMPLES = PACKAGE.parents[1] / "samples"
 
 STAND_IN = """#!{python}
@@ -35,12 +34,6 @@ def pytest_terminal_summary(terminalreporter: Any) -> None:
     reasons = collections.Counter(str(report.longrepr[2]).removeprefix("Skipped: ") for report in reports)
     for reason, count in reasons.items():
         terminalreporter.write_line(f"{count} skipped: {reason}")
-
-
-def executable(path: Path, text: str) -> Path:
-    path.write_text(text)
-    path.chmod(path.stat().st_mode | stat.S_IXUSR)
-    return path
 
 
 @pytest.fixture(scope="session")

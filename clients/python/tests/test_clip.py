@@ -21,14 +21,13 @@ from clips import (
     assert_whole,
     command,
     images,
-    names,
     own_image,
     run,
     running,
     samples,
     wait_for,
 )
-from conftest import executable
+from helpers import executable, names
 
 from malletfern.clip import frames_in, jobs_for
 from malletfern.developing import Ending, Job, OpenSessions, Outcome, develop
@@ -353,7 +352,8 @@ class TestWrongUse:
 
     def test_no_program(self, environment: dict[str, str], clip: Path, out: Path, tmp_path: Path) -> None:
         ended = run({**environment, VARIABLE: str(tmp_path / "rawdev")}, clip, out)
-        assert ended.stderr == f"malletfern: {tmp_path}/rawdev isn't there: a rawdev that can be run should be there\n"
+        said = f"{tmp_path}/rawdev, which {VARIABLE} names, isn't there: a rawdev that can be run should be there"
+        assert ended.stderr == f"malletfern: {said}\n"
         assert ended.returncode == 2
 
     def test_no_tqdm(self, environment: dict[str, str], clip: Path, out: Path) -> None:
@@ -378,11 +378,16 @@ class TestWrongUse:
         assert ended.returncode == 2
 
 
-def test_the_frames_of_a_folder(clip: Path, tmp_path: Path) -> None:
-    assert frames_in(clip) == sorted([*GOOD, CUT, NO_FRAME])
-    jobs = jobs_for(clip, tmp_path, None, Path("rawdev"))
-    assert [job.frame.name for job in jobs] == frames_in(clip)
-    assert [job.image for job in jobs] == [(tmp_path / name).with_suffix(".tiff") for name in frames_in(clip)]
+def test_the_frames_of_a_folder(tmp_path: Path) -> None:
+    for name in ("take 1.2.dng", "b.DNG", ".hidden.dng", "notes.txt", "take 1.dng.txt", "雪.dng"):
+        (tmp_path / name).touch()
+    assert frames_in(tmp_path) == ["b.DNG", "take 1.2.dng", "雪.dng"]
+    jobs = jobs_for(tmp_path, Path("images"), None, Path("rawdev"))
+    assert [(str(job.frame), str(job.image)) for job in jobs] == [
+        (f"{tmp_path}/b.DNG", "images/b.tiff"),
+        (f"{tmp_path}/take 1.2.dng", "images/take 1.2.tiff"),
+        (f"{tmp_path}/雪.dng", "images/雪.tiff"),
+    ]
 
 
 def test_two_frames_of_one_image(tmp_path: Path) -> None:

@@ -3,7 +3,7 @@
 from pathlib import Path
 
 import pytest
-from conftest import executable
+from helpers import executable
 
 from malletfern import installed
 from malletfern.errors import NotInstalled
@@ -39,14 +39,23 @@ def test_the_order(no_program: Path, monkeypatch: pytest.MonkeyPatch) -> None:
 
 def test_what_is_named_has_to_be_there(no_program: Path, monkeypatch: pytest.MonkeyPatch) -> None:
     program(no_program / "bin/rawdev")
-    with pytest.raises(NotInstalled):
+    with pytest.raises(NotInstalled, match="^/.*/none isn't there: a rawdev that can be run should be there"):
         find_program(no_program / "none")
     (no_program / "plain").touch()
-    with pytest.raises(NotInstalled):
+    with pytest.raises(NotInstalled, match="^/.*/plain can't be run: it should be a rawdev"):
         find_program(no_program / "plain")
     monkeypatch.setenv(VARIABLE, str(no_program / "none"))
-    with pytest.raises(NotInstalled):
+    with pytest.raises(NotInstalled, match=f"^/.*/none, which {VARIABLE} names, isn't there"):
         find_program()
+    monkeypatch.setenv(VARIABLE, str(no_program / "plain"))
+    with pytest.raises(NotInstalled, match=f"^/.*/plain, which {VARIABLE} names, can't be run"):
+        find_program()
+
+
+def test_an_empty_variable_is_as_none(no_program: Path, monkeypatch: pytest.MonkeyPatch) -> None:
+    on_path = program(no_program / "bin/rawdev")
+    monkeypatch.setenv(VARIABLE, "")
+    assert find_program() == on_path
 
 
 def test_a_shallow_package(no_program: Path, monkeypatch: pytest.MonkeyPatch) -> None:

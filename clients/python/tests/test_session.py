@@ -11,6 +11,7 @@ from typing import Any
 
 import numpy as np
 import pytest
+from helpers import executable, names
 from made_frames import (
     ACROSS,
     DOWN,
@@ -125,7 +126,7 @@ class TestSet:
             with pytest.raises(LineRefused) as refused:
                 session.set(*words)  # type: ignore[arg-type]
             assert refused.value.name == name
-            assert str(refused.value) == f"no {name}"
+            assert str(refused.value).startswith(f"no {name}: ")
             assert session.region(18, 20, 1, 1).tolist() == [[[0xC000, 0xC000, 0]]]
 
     @pytest.mark.parametrize("value", ["", "1 2", "1\n", "1\r", "1\nregion 0 0 1 1 ppm"])
@@ -202,11 +203,11 @@ class TestSave:
             with pytest.raises(NotADirectoryError):
                 session.save(ramp_frame / "out.ppm", 0, 0, 1, 1)
             assert out.read_bytes() == b"what was there"
-            assert [path.name for path in out.parent.iterdir()] == ["out.ppm"]
+            assert names(out.parent) == ["out.ppm"]
             session.save(out, 2, 2, 1, 1)
         assert out.read_bytes() == b"P6\n1 1\n65535\n" + struct.pack(">H", START + DOWN * 2 + ACROSS * 2) * 3
 
-    def test_a_failed_write_leaves_the_session_as_it_was(self, rawdev: Path, bars: Path, tmp_path: Path) -> None:
+    def test_a_failed_write_leaves_the_session_as_it_was(self, rawdev: Path, tmp_path: Path) -> None:
         """Files may have 64 kB for a while, and the image has 1.5 MB."""
         resource = pytest.importorskip("resource")
         name = tmp_path / "large.dng"
@@ -219,7 +220,7 @@ class TestSave:
                     session.save(tmp_path / "out.tiff", 0, 0, 500, 500)
             finally:
                 resource.setrlimit(resource.RLIMIT_FSIZE, limits)
-            assert sorted(path.name for path in tmp_path.iterdir()) == ["large.dng"]
+            assert names(tmp_path) == ["large.dng"]
             assert session.region(2, 2, 1, 1).tolist() == [[[START + DOWN * 2 + ACROSS * 2] * 3]]
 
 
@@ -331,6 +332,10 @@ class TestRefusedAtTheStart:
     def test_no_program(self, bars: Path, tmp_path: Path) -> None:
         with pytest.raises(NotInstalled, match="rawdev"):
             Session(bars, program=tmp_path / "rawdev")
+
+    def test_a_file_that_is_no_program(self, bars: Path, tmp_path: Path) -> None:
+        with pytest.raises(NotInstalled, match="rawdev is no program that runs here: a rawdev of this machine"):
+            Session(bars, program=executable(tmp_path / "rawdev", "no program\n"))
 
 
 class TestEnd:
@@ -451,7 +456,7 @@ class TestUnknownReplies:
         with pytest.raises(UnknownReply):
             with Session("frame", program=stand_in(STAT, b"image 186\nMM" + bytes(184))) as session:
                 session.save(tmp_path / "out.tiff", 0, 0, 1, 1)
-        assert [path.name for path in tmp_path.iterdir()] == ["stand_in"]
+        assert names(tmp_path) == ["stand_in"]
 
     def test_to_a_change(self, stand_in: Callable[..., Path]) -> None:
         with pytest.raises(UnknownReply), Session("frame", program=stand_in(STAT, b"OK\n")) as session:
@@ -484,7 +489,7 @@ class TestEndsInAReply:
         with pytest.raises(ProgramEnded) as ended:
             session.save(tmp_path / "out.ppm", 0, 0, 1, 1)
         assert ended.value.status == status
-        assert [path.name for path in tmp_path.iterdir()] == ["stand_in"]
+        assert names(tmp_path) == ["stand_in"]
 
     def test_an_interrupt_ends_the_session(self, stand_in: Callable[..., Path]) -> None:
         """The stand-in waits for its next line when it has sent half an image."""

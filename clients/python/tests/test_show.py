@@ -7,6 +7,7 @@ from pathlib import Path
 import numpy as np
 import numpy.typing as npt
 import pytest
+from helpers import names
 
 from malletfern.cli import main
 from malletfern.show import histograms
@@ -39,7 +40,7 @@ def test_the_whole_plane(
     monkeypatch.chdir(tmp_path)
     assert main(["show", str(bars)]) == 0
     assert capsys.readouterr().out == "bars.show.png\n"
-    assert [path.name for path in tmp_path.iterdir()] == ["bars.show.png"]
+    assert names(tmp_path) == ["bars.show.png"]
     colours = colours_of(tmp_path / "bars.show.png")
     for bar in ((221, 221, 0), (0, 221, 221), (0, 221, 0), (221, 0, 221), (221, 0, 0), (0, 0, 221)):
         assert count(colours, *bar) > 5000
@@ -59,7 +60,7 @@ def test_a_region_under_settings(rawdev: Path, bars: Path, tmp_path: Path) -> No
 @pytest.mark.parametrize(
     ("words", "status", "said"),
     [
-        (["bars", "--region", "0", "0", "97", "1"], 1, "malletfern: no region"),
+        (["bars", "--region", "0", "0", "97", "1"], 1, "malletfern: no region: the rectangle has no pixel"),
         (["none"], 1, "malletfern: rawdev ended with status 4"),
         (["frame"], 1, "malletfern: refused NotTiff"),
         (["bars", "--out", "none/out.png"], 1, "malletfern: [Errno 2] No such file or directory"),
@@ -80,7 +81,7 @@ def test_refused(
     Path("frame").write_bytes(b"no frame\n")
     assert main(["show", *words]) == status
     assert capsys.readouterr().err.startswith(said)
-    assert sorted(path.name for path in tmp_path.iterdir()) == ["bars", "frame"]
+    assert names(tmp_path) == ["bars", "frame"]
 
 
 @pytest.mark.parametrize("region", [["0", "0"], ["0", "0", "1", "1", "1"], ["0", "0", "1", "one"]])

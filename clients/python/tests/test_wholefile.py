@@ -10,7 +10,7 @@ from collections.abc import Iterator
 from pathlib import Path
 
 import pytest
-from conftest import PACKAGE
+from helpers import PACKAGE, names
 
 from malletfern.wholefile import PART_NAME, check_writable, remove_dead_parts, whole_file
 
@@ -25,10 +25,6 @@ with whole_file(Path(sys.argv[1])) as file:
     print("written", flush=True)
     time.sleep(60)
 """
-
-
-def names(folder: Path) -> list[str]:
-    return sorted(path.name for path in folder.iterdir())
 
 
 @pytest.fixture

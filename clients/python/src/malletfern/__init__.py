@@ -15,12 +15,15 @@ from malletfern.errors import (
     UnknownReply,
     UsageRefused,
 )
+from malletfern.images import Format, Image
 from malletfern.replies import Counts
 from malletfern.session import Session
 
 __all__ = [
     "Counts",
+    "Format",
     "FrameRefused",
+    "Image",
     "LineRefused",
     "MalletfernError",
     "NotInstalled",

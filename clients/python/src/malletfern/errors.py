@@ -10,6 +10,17 @@ STATUS_TEXTS = {
 }
 
 
+LINE_TEXTS = {
+    "line": "the line has more than 4096 bytes",
+    "word": "it is no command",
+    "key": "there is no such setting",
+    "value": "the value has another form, or is out of its range",
+    "region": "the rectangle has no pixel, or passes the developed plane",
+    "matrix": "the frame doesn't have this forward matrix",
+    "levels": "white would not be above black",
+}
+
+
 class MalletfernError(Exception):
     """Anything that this package raises of its own."""
 
@@ -67,7 +78,8 @@ class LineRefused(MalletfernError):
         self.name = name
 
     def __str__(self) -> str:
-        return f"no {self.name}"
+        text = LINE_TEXTS.get(self.name)
+        return f"no {self.name}" + (f": {text}" if text else "")
 
 
 class ProgramEnded(MalletfernError):
@@ -123,15 +135,17 @@ class SessionEnded(MalletfernError):
 
 
 class NotInstalled(MalletfernError):
-    """A program or a Python package isn't there. `what` names it, and `remedy` says what to do."""
+    """A program or a Python package isn't there, or can't be run. `what` names it, `fault` says which of these it is,
+    and `remedy` what to do."""
 
-    def __init__(self, what: str, remedy: str) -> None:
-        super().__init__(what, remedy)
+    def __init__(self, what: str, remedy: str, fault: str = "isn't there") -> None:
+        super().__init__(what, remedy, fault)
         self.what = what
         self.remedy = remedy
+        self.fault = fault
 
     def __str__(self) -> str:
-        return f"{self.what} isn't there: {self.remedy}"
+        return f"{self.what} {self.fault}: {self.remedy}"
 
 
 class WrongUse(MalletfernError):

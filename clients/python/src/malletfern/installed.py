@@ -14,16 +14,15 @@ BUILT = "crates/rawdev/out/rawdev"
 
 def find_program(program: str | os.PathLike[str] | None = None) -> Path:
     """The absolute path of `rawdev`: `program`, else the environment's MALLETFERN_RAWDEV, else `rawdev` on the path,
-    else the one that was built in the checkout that this package stands in.
+    else the one that was built in the checkout that this package stands in. An empty variable is as none.
 
     Raises NotInstalled where there is none, and where the first two name what can't be run.
     """
-    named = program if program is not None else os.environ.get(VARIABLE)
-    if named is not None:
-        found = Path(named).absolute()
-        if not _can_be_run(found):
-            raise NotInstalled(str(found), "a rawdev that can be run should be there")
-        return found
+    if program is not None:
+        return _runnable(Path(program), "")
+    variable = os.environ.get(VARIABLE)
+    if variable:
+        return _runnable(Path(variable), f", which {VARIABLE} names,")
     on_path = shutil.which("rawdev")
     if on_path is not None:
         return Path(on_path).absolute()
@@ -41,6 +40,21 @@ def import_extra(module: str, debian_package: str) -> ModuleType:
         raise NotInstalled(
             f"the Python package {missing.name}", f"`apt install {debian_package}` installs it on Debian"
         ) from missing
+
+
+def no_program(path: str | os.PathLike[str]) -> NotInstalled:
+    """What to raise where the system finds no program in a file that may be run."""
+    return NotInstalled(os.fspath(path), "a rawdev of this machine should stand there", "is no program that runs here")
+
+
+def _runnable(path: Path, named: str) -> Path:
+    """The absolute path of a file that may be run. `named` says after its name where that comes from."""
+    found = path.absolute()
+    if not found.is_file():
+        raise NotInstalled(f"{found}{named}", "a rawdev that can be run should be there")
+    if not _can_be_run(found):
+        raise NotInstalled(f"{found}{named}", "it should be a rawdev, and `chmod +x` lets it be run", "can't be run")
+    return found
 
 
 def _in_checkout() -> list[Path]:

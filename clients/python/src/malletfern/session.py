@@ -2,11 +2,12 @@
 
 import bisect
 import contextlib
+import errno
 import operator
 import os
 import subprocess
 import sys
-from collections.abc import Iterator
+from collections.abc import Iterator, Sequence
 from pathlib import Path
 from types import TracebackType
 from typing import BinaryIO, Self, SupportsIndex, cast
@@ -17,7 +18,7 @@ import numpy.typing as npt
 from malletfern.dng import LONGEST_SIDE, suggested_size
 from malletfern.errors import LineRefused, ProgramEnded, SessionEnded, SessionFull, UnknownReply
 from malletfern.images import Format, Image
-from malletfern.installed import find_program
+from malletfern.installed import find_program, no_program
 from malletfern.replies import Counts, check_done, check_image, check_refusal, counts_in, refused_opening
 from malletfern.wholefile import whole_file
 
@@ -39,10 +40,11 @@ class Session:
 
     `frame` is the name of a DNG file, `settings` that of a settings file. `budget` is how many samples may be kept from
     one region to the next, and `cell` the side of the cells in samples: 16 to 512, a multiple of 16. Where they aren't
-    given, the program's own hold. `program` is the path of `rawdev`; where it isn't given, `find_program` finds it.
+    given, the program's defaults apply. `program` is the path of `rawdev`; without it `find_program` finds it.
 
     Raises FrameRefused, SettingsRefused and UsageRefused where the program refuses what it was given, ProgramEnded
-    where it ended otherwise (status 4 where a file can't be read), and NotInstalled where there is no program.
+    where it ended otherwise (status 4 where a file can't be read), and NotInstalled where no program that runs is
+    found.
 
     Each call raises LineRefused where the program refuses the line: then nothing changed, and the session goes on.
     ProgramEnded, UnknownReply and each exception that cuts a reply short end the session: the program is killed, and
@@ -62,13 +64,7 @@ class Session:
         self._size: tuple[int, int] | None = None
         self._sent = 0
         self._ended = False
-        # In a process group of its own the program isn't ended by a Ctrl-C that is meant for the caller.
-        self._process = subprocess.Popen(
-            [find_program(program), *_options(settings, budget, cell), "--", frame],
-            stdin=subprocess.PIPE,
-            stdout=subprocess.PIPE,
-            process_group=0,
-        )
+        self._process = _started([find_program(program), *_options(settings, budget, cell), "--", frame])
         self._in = cast(BinaryIO, self._process.stdin)
         self._out = cast(BinaryIO, self._process.stdout)
         self._open()
@@ -84,7 +80,7 @@ class Session:
             self._take_start(line, image)
             pixels = np.empty((image.h, image.w, 3), np.uint16)
             self._fill(pixels.data.cast("B"))
-        # The greater byte of a sample comes first.
+        # The most significant byte of a sample comes first.
         return pixels.byteswap(inplace=True) if sys.byteorder == "little" else pixels
 
     def set(self, key: str, *values: str | SupportsIndex) -> None:
@@ -118,7 +114,7 @@ class Session:
             self.write(file, image)
 
     def write(self, file: BinaryIO, image: Image) -> None:
-        """Writes an image to a binary file that is open, as `save` does to one that gets a name."""
+        """Writes an image to a buffered binary file that is open, as `save` does to one that gets a name."""
         with self._reply(image.line) as line:
             self._take_start(line, image)
             fault = self._copy(image, file)
@@ -291,6 +287,17 @@ class Session:
         self._ended = True
         with contextlib.suppress(BrokenPipeError):
             self._in.close()
+
+
+def _started(words: Sequence[str | os.PathLike[str]]) -> "subprocess.Popen[bytes]":
+    """The running program. Raises NotInstalled where the system finds none in its file."""
+    try:
+        # In a process group of its own the program isn't ended by a Ctrl-C that is meant for the caller.
+        return subprocess.Popen(words, stdin=subprocess.PIPE, stdout=subprocess.PIPE, process_group=0)
+    except OSError as fault:
+        if fault.errno != errno.ENOEXEC:
+            raise
+        raise no_program(words[0]) from fault
 
 
 def _options(
