@@ -3,12 +3,12 @@ use Rattle.std.proofs.Common.{All, ◌≡◌, ℕ, suc, ◌+◌, ◌-◌, ◌<�
 use Rattle.std.proofs.Common.{append_assoc, append-nil, arith, drop, length, length-append, refl, sym, ◌∙◌}
 use Rattle.std.proofs.lemmas.List.Elements.{All-append}
 use Rattle.opcode_list.specs.Cuts.{RawOpcode, cut_opcodes, first_opcode}
-use Rattle.opcode_list.specs.Lists.{Answers, and_then, opcode_of, opcodes_from}
+use Rattle.text_line.specs.Chain.{and_then}
+use Rattle.opcode_list.specs.Lists.{opcode_of, opcodes_from}
 use Rattle.opcode_list.specs.Params.{CanRunIn}
 use Rattle.opcode_list.specs.declared.opcode.Opcode.{Opcode}
 use Rattle.opcode_list.specs.declared.opcode.OpcodeFault.{OpcodeFault}
-use Rattle.opcode_list.specs.declared.opcode.OpcodeFault.TheVariants.{BadParams, Memory, Newer, NotHere}
-use Rattle.opcode_list.specs.declared.opcode.OpcodeFault.TheVariants.{TooMany, Truncated, Unknown}
+use Rattle.opcode_list.specs.declared.opcode.OpcodeFault.TheVariants.{Truncated}
 
 -- opcodes before those of an answer
 abbrev pub after : List Opcode → Result (List Opcode) OpcodeFault → Result (List Opcode) OpcodeFault
@@ -141,15 +141,3 @@ pub ends :
     opcodes_from list 0 (cut_opcodes count bytes) ≡ Ok opcodes
 ends {list} {count} {bytes} {index} {rest} {opcodes} had all =
     sym had.walk ∙ told_from-end list count index rest opcodes all
-
--- a fault that is handed on
-pub hands_on :
-    {A B : Type 0} (fault : OpcodeFault) (inner : Result A OpcodeFault) (outer : Result B OpcodeFault) →
-    (inner ≡ Err fault → outer ≡ Err fault) → Answers (Err fault) inner → Answers (Err fault) outer
-hands_on TooMany inner outer on answer = on answer
-hands_on (Truncated index) inner outer on answer = on answer
-hands_on (Newer index id) inner outer on answer = on answer
-hands_on (Unknown index id) inner outer on answer = on answer
-hands_on (NotHere index id) inner outer on answer = on answer
-hands_on (BadParams index id) inner outer on answer = on answer
-hands_on Memory inner outer on answer = tt

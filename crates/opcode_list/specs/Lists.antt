@@ -1,7 +1,9 @@
 -- An opcode list, or its first refusal (DNG 1.6, "Opcode List Processing"). Which opcodes are run, and the limits, are
 -- this project's own.
-use Rattle.std.specs.Prelude.{◌≡◌, ⊤, ℕ, ◌+◌, ◌==◌, ◌&&◌, ◌||◌, Bool, nat_le, nat_lt, if◌then◌else◌, List, [], ◌∷◌}
-use Rattle.std.specs.Prelude.{Option, None, Some, Result, Ok, Err, bit_and, drop, length, not}
+use Rattle.std.specs.Prelude.{ℕ, ◌+◌, ◌==◌, ◌&&◌, ◌||◌, Bool, nat_le, nat_lt, if◌then◌else◌, List, [], ◌∷◌}
+use Rattle.std.specs.Prelude.{Option, None, Some, Result, Ok, Err, bit_and, drop, length, not, ok_or}
+use Rattle.std.specs.Option.{option_map_or}
+use Rattle.text_line.specs.Chain.{AnswersUnless, and_then}
 use Rattle.opcode_list.specs.declared.opcode.Opcode.{Opcode}
 use Rattle.opcode_list.specs.declared.opcode.Opcode.TheVariants.{Skipped}
 use Rattle.opcode_list.specs.declared.opcode.OpcodeFault.{OpcodeFault}
@@ -10,14 +12,9 @@ use Rattle.opcode_list.specs.declared.opcode.OpcodeFault.TheVariants.{Truncated,
 use Rattle.opcode_list.specs.Cuts.{RawOpcode, cut_opcodes, long_at}
 use Rattle.opcode_list.specs.Params.{opcode_with}
 
--- what the next step makes of the value, or the refusal
-abbrev pub and_then : {A B : Type 0} → Result A OpcodeFault → (A → Result B OpcodeFault) → Result B OpcodeFault
-and_then (Ok value) next = next value
-and_then (Err fault) next = Err fault
-
--- an opcode of a DNG version after 1.6
-abbrev pub is_newer : RawOpcode → Bool
-is_newer raw = nat_lt 1 raw.major || ((raw.major == 1) && nat_lt 6 raw.minor)
+-- a DNG version after 1.6
+abbrev pub is_newer : (major minor : ℕ) → Bool
+is_newer major minor = nat_lt 1 major || ((major == 1) && nat_lt 6 minor)
 
 -- an ID that can be run, 4 to 7: `opcode_with` names them
 abbrev pub is_known : ℕ → Bool
@@ -30,7 +27,7 @@ is_misplaced list id = (list == 3) && nat_le 4 id && nat_le id 5
 -- why an opcode can't be run, whatever its parameters
 unfoldable pub barred_by : ℕ → ℕ → RawOpcode → Option OpcodeFault
 barred_by list index raw =
-    if is_newer raw then Some (Newer index raw.id)
+    if is_newer raw.major raw.minor then Some (Newer index raw.id)
     else (if not (is_known raw.id) then Some (Unknown index raw.id)
     else (if is_misplaced list raw.id then Some (NotHere index raw.id)
     else None))
@@ -43,15 +40,10 @@ is_optional flags = bit_and flags 1 == 1
 abbrev pub passed_over : RawOpcode → OpcodeFault → Result Opcode OpcodeFault
 passed_over raw fault = if is_optional raw.flags then Ok (Skipped raw.id) else Err fault
 
--- the opcode that the parameters tell
-abbrev pub told_by : ℕ → RawOpcode → Option Opcode → Result Opcode OpcodeFault
-told_by index raw None = Err (BadParams index raw.id)
-told_by index raw (Some opcode) = Ok opcode
-
--- an opcode that can be run is run whatever its flags
+-- an opcode that can be run is run whatever its flags, where its parameters tell one
 abbrev pub unless_barred : ℕ → RawOpcode → Option OpcodeFault → Result Opcode OpcodeFault
 unless_barred index raw (Some fault) = passed_over raw fault
-unless_barred index raw None = told_by index raw (opcode_with raw.id raw.params)
+unless_barred index raw None = ok_or (opcode_with raw.id raw.params) (BadParams index raw.id)
 
 -- one opcode of a list by its index, or its refusal
 unfoldable pub opcode_of : ℕ → ℕ → RawOpcode → Result Opcode OpcodeFault
@@ -59,8 +51,7 @@ opcode_of list index raw = unless_barred index raw (barred_by list index raw)
 
 -- the same of one that may pass the end
 abbrev pub opcode_at : ℕ → ℕ → Option RawOpcode → Result Opcode OpcodeFault
-opcode_at list index None = Err (Truncated index)
-opcode_at list index (Some raw) = opcode_of list index raw
+opcode_at list index cut = option_map_or (opcode_of list index) cut (Err (Truncated index))
 
 -- opcodes by their indices from one on, or the first refusal
 unfoldable pub opcodes_from : ℕ → ℕ → List (Option RawOpcode) → Result (List Opcode) OpcodeFault
@@ -80,6 +71,4 @@ opcodes_of list bytes =
 
 -- what a call that takes memory answers: its definition's answer, or that it is out of memory
 abbrev pub Answers : {A : Type 0} → Result A OpcodeFault → Result A OpcodeFault → Type 0
-Answers (Ok value) want = want ≡ Ok value
-Answers (Err Memory) want = ⊤
-Answers (Err fault) want = want ≡ Err fault
+Answers result want = AnswersUnless Memory result want

@@ -1,7 +1,8 @@
 -- What the trims of an opcode list leave of a plane (DNG 1.6, "Opcode List Processing", TrimBounds). That a trim which
 -- passes the plane that it finds is refused is this project's own.
 use Rattle.std.specs.Prelude.{ℕ, ◌+◌, ◌≤◌, ◌&&◌, Bool, nat_le, true, if◌then◌else◌, List, [], ◌∷◌, Option, None, Some}
-use Rattle.std.specs.Prelude.{Result, Ok, Err}
+use Rattle.std.specs.Prelude.{Result}
+use Rattle.text_line.specs.Chain.{ok_unless}
 use Rattle.plane_view.specs.Rectangles.{height, width}
 use Rattle.plane_view.specs.declared.Shape.{Shape}
 use Rattle.opcode_list.specs.declared.opcode.Opcode.{Opcode}
@@ -34,14 +35,9 @@ first_misfit index [] shape = None
 first_misfit index (opcode ∷ more) shape =
     if fits opcode shape then first_misfit (index + 1) more (left_by opcode shape) else Some index
 
--- a shape, or the index of the trim that is refused
-abbrev pub left_or : Option ℕ → Shape → Result Shape ℕ
-left_or None left = Ok left
-left_or (Some index) left = Err index
-
 -- the shape that the trims of a list leave, or the first one that doesn't lie in the plane that it finds
 abbrev pub trimmed : List Opcode → Shape → Result Shape ℕ
-trimmed opcodes shape = left_or (first_misfit 0 opcodes shape) (left_after opcodes shape)
+trimmed opcodes shape = ok_unless (first_misfit 0 opcodes shape) (left_after opcodes shape)
 
 -- a shape with pixels, and no more rows and columns than another one
 pub record IsPartOf (whole left : Shape) : Type 0 where

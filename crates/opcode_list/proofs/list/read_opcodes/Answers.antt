@@ -1,28 +1,22 @@
 use Rattle.std.proofs.Common.{◌≡◌, ◌++◌, ◌∷◌, [], arith, sym}
 use Rattle.std.proofs.lemmas.Grind.{common_steps}
 use Rattle.std.proofs.lemmas.Result.{err_from_is_err_and}
-use Rattle.opcode_list.specs.Cuts.{cut_opcodes}
-use Rattle.opcode_list.specs.Lists.{opcode_of, opcodes_from}
-use Rattle.opcode_list.specs.inner.Seen.{raw_seen}
-use Rattle.opcode_list.proofs.Walk.{begins, ends, goes_on, hands_on, stops, stops_short}
+use Rattle.opcode_list.proofs.Walk.{begins, ends, goes_on, stops, stops_short}
 use Rattle.opcode_list.proofs.list.read_opcodes.Goals as goal
 
 pub loop-index-init : goal.loop-index-init
 loop-index-init c = rw c.new-opcodes.ensures.items (begins c.args.list c.args.count c.args.bytes.now)
 
 pub returns-in_default-clause-answer : goal.returns-in_default-clause-answer
-returns-in_default-clause-answer c =
+returns-in_default-clause-answer c other =
     stops_short c.loop-index.invariant c.loop-index-test.true (sym c.in_default.ensures.opcode)
 
 pub returns-in_err-opcode-clause-answer : goal.returns-in_err-opcode-clause-answer
 returns-in_err-opcode-clause-answer c =
     let p = err_from_is_err_and c.from_residual.result c.from_residual.ensures.1 in
-    rw (p.1, p.2)
-    (hands_on c.in_err-opcode.field-0.0
-    (opcode_of c.args.list c.loop-index.index (raw_seen c.in-Some.raw))
-    (opcodes_from c.args.list 0 (cut_opcodes c.args.count c.args.bytes.now))
-    (stops c.loop-index.invariant c.loop-index-test.true (sym c.in-Some.ensures.opcode))
-    c.in_err-opcode.ensures.answer)
+    rw (p.1, p.2) (λ other.
+    stops c.loop-index.invariant c.loop-index-test.true (sym c.in-Some.ensures.opcode)
+    (c.in_err-opcode.ensures.answer other))
 
 pub loop-index-preserved : goal.loop-index-preserved
 loop-index-preserved c =

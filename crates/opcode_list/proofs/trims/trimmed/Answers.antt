@@ -1,7 +1,8 @@
 use Rattle.std.proofs.Common.{ap, arith, subst, sym, ◌∙◌}
 use Rattle.std.proofs.lemmas.List.Elements.{All-get_or}
 use Rattle.opcode_list.specs.Params.{CanRun}
-use Rattle.opcode_list.specs.Trims.{left_after, left_or}
+use Rattle.text_line.specs.Chain.{ok_unless}
+use Rattle.opcode_list.specs.Trims.{left_after}
 use Rattle.opcode_list.proofs.TrimLemmas.{all_fit, all_left, fits_on, left_on, misfits, part_on}
 use Rattle.opcode_list.proofs.trims.trimmed.Goals as goal
 
@@ -11,7 +12,7 @@ returns-then-not-fits-clause-answer c =
     let opcode = c.index-opcodes-index.result in
     let unfit = misfits c.args.opcodes.now l.index opcode l.left (omega arith) c.index-opcodes-index.is
     (sym c.fits.ensures ∙ c.if-not-fits.true) in
-    ap (λ misfit. left_or misfit (left_after c.args.opcodes.now c.args.shape)) (sym unfit ∙ l.invariant.fits)
+    ap (λ misfit. ok_unless misfit (left_after c.args.opcodes.now c.args.shape)) (sym unfit ∙ l.invariant.fits)
 
 pub loop-index-preserved : goal.loop-index-preserved
 loop-index-preserved c =
@@ -33,4 +34,4 @@ returns-clause-answer c =
     let opcodes = c.args.opcodes.now in
     let fit = sym (all_fit opcodes l.index l.left c.loop-index-test.false) ∙ l.invariant.fits in
     let left = sym (all_left opcodes l.index l.left c.loop-index-test.false) ∙ l.invariant.left in
-    λ i. left_or (fit i) (left i)
+    λ i. ok_unless (fit i) (left i)
