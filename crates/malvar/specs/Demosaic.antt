@@ -1,8 +1,10 @@
 -- Demosaicing by a table of weights: Malvar, He and Cutler (2004, figure 2), and the bilinear means. The rounding and
 -- the reflection at the edges are this project's own.
-use Rattle.std.specs.Prelude.{ℕ, ◌+◌, ◌/◌, nat_eq, min, if◌then◌else◌, ℤ, pos, negsuc, ◌+ℤ◌, ◌*ℤ◌, List}
+use Rattle.std.specs.Prelude.{ℕ, ◌+◌, nat_eq, if◌then◌else◌, ℤ, pos, neg_ℤ, ◌+ℤ◌, ◌*ℤ◌, List}
+use Rattle.std.specs.Int.{int_div_euclid}
 use Rattle.plane_view.specs.Plane.{Plane, sample, plane_of}
 use Rattle.plane_view.specs.Reflect.{reflected}
+use Rattle.plane_view.specs.Samples.{clipped}
 use Rattle.malvar.specs.declared.Kind.{Kind}
 use Rattle.malvar.specs.declared.Kind.TheVariants.{Malvar, Bilinear}
 use Rattle.malvar.specs.Pattern.{colour_at}
@@ -23,13 +25,6 @@ pub record Table : Type 0 where
   pub in_column : Weights  -- red or blue at green, that colour up and down
   pub opposite : Weights  -- red at blue, blue at red
 
--- the negative weights: negsuc n is -(n + 1)
-abbrev pub minus_2 : ℤ
-minus_2 = negsuc 1
-
-abbrev pub minus_3 : ℤ
-minus_3 = negsuc 2
-
 -- the filters of figure 2, whose eighths are sixteenths here
 abbrev pub malvar : Table
 malvar = record {
@@ -38,32 +33,32 @@ malvar = record {
     horizontal = pos 4;
     vertical = pos 4;
     diagonal = pos 0;
-    horizontal_2 = minus_2;
-    vertical_2 = minus_2;
+    horizontal_2 = neg_ℤ (pos 2);
+    vertical_2 = neg_ℤ (pos 2);
   };
   in_row = record {
     centre = pos 10;
     horizontal = pos 8;
     vertical = pos 0;
-    diagonal = minus_2;
-    horizontal_2 = minus_2;
+    diagonal = neg_ℤ (pos 2);
+    horizontal_2 = neg_ℤ (pos 2);
     vertical_2 = pos 1;
   };
   in_column = record {
     centre = pos 10;
     horizontal = pos 0;
     vertical = pos 8;
-    diagonal = minus_2;
+    diagonal = neg_ℤ (pos 2);
     horizontal_2 = pos 1;
-    vertical_2 = minus_2;
+    vertical_2 = neg_ℤ (pos 2);
   };
   opposite = record {
     centre = pos 12;
     horizontal = pos 0;
     vertical = pos 0;
     diagonal = pos 4;
-    horizontal_2 = minus_3;
-    vertical_2 = minus_3;
+    horizontal_2 = neg_ℤ (pos 3);
+    vertical_2 = neg_ℤ (pos 3);
   };
 }
 
@@ -114,23 +109,27 @@ abbrev pub reach_of : Kind → ℕ
 reach_of Malvar = 2
 reach_of Bilinear = 1
 
--- the weights for a wanted colour at row r, column c, which has another colour
-abbrev pub weights_at : Table → List ℕ → ℕ → ℕ → ℕ → Weights
-weights_at table cfa r c wanted =
+-- the weights for a wanted colour at a pixel of another colour, by its own colour and that of its right neighbour
+abbrev pub weights_by : Table → (own right wanted : ℕ) → Weights
+weights_by table own right wanted =
     if nat_eq wanted 1 then table.green
-    else if nat_eq (colour_at cfa r c) 1
-    then (if nat_eq (colour_at cfa r (c + 1)) wanted then table.in_row else table.in_column)
+    else if nat_eq own 1
+    then (if nat_eq right wanted then table.in_row else table.in_column)
     else table.opposite
 
--- steps from a pixel to one near it, down and to the right: negsuc n is -(n + 1)
+-- the weights for a wanted colour at row r, column c, which has another colour
+abbrev pub weights_at : Table → List ℕ → ℕ → ℕ → ℕ → Weights
+weights_at table cfa r c = weights_by table (colour_at cfa r c) (colour_at cfa r (c + 1))
+
+-- steps from a pixel to one near it, down and to the right
 abbrev pub here : ℤ
 here = pos 0
 
 abbrev pub up_1 : ℤ
-up_1 = negsuc 0
+up_1 = neg_ℤ (pos 1)
 
 abbrev pub up_2 : ℤ
-up_2 = negsuc 1
+up_2 = neg_ℤ (pos 2)
 
 abbrev pub down_1 : ℤ
 down_1 = pos 1
@@ -139,10 +138,10 @@ abbrev pub down_2 : ℤ
 down_2 = pos 2
 
 abbrev pub left_1 : ℤ
-left_1 = negsuc 0
+left_1 = neg_ℤ (pos 1)
 
 abbrev pub left_2 : ℤ
-left_2 = negsuc 1
+left_2 = neg_ℤ (pos 2)
 
 abbrev pub right_1 : ℤ
 right_1 = pos 1
@@ -166,14 +165,9 @@ weighted_sum rows cols at r c w =
     +ℤ w.horizontal_2 *ℤ (step here left_2 +ℤ step here right_2)
     +ℤ w.vertical_2 *ℤ (step up_2 here +ℤ step down_2 here)
 
--- sixteenths as a whole number, rounded down, and held within 0 and 65535
-abbrev pub from_sixteenths : ℤ → ℕ
-from_sixteenths (pos n) = min (n / 16) 65535
-from_sixteenths (negsuc n) = 0
-
 -- s sixteenths rounded to the nearest number, a half up, and held within 0 and 65535
 abbrev pub rounded : ℤ → ℕ
-rounded s = from_sixteenths (s +ℤ pos 8)
+rounded s = clipped (int_div_euclid (s +ℤ pos 8) (pos 16))
 
 -- the sample of a wanted colour at row r, column c
 abbrev pub demosaiced_at : Table → List ℕ → (rows cols : ℕ) → (ℕ → ℕ → ℕ → ℕ) → ℕ → ℕ → ℕ → ℕ

@@ -1,7 +1,7 @@
 -- What a filter reads round one pixel, apart from planes and rows: this project's own.
 use Rattle.std.specs.Prelude.{◌≡◌, ℕ, ◌+◌, ◌%◌, ◌≤◌, nat_eq, if◌then◌else◌, ℤ, pos, ◌+ℤ◌, ◌-ℤ◌, ◌*ℤ◌, List, slice_index}
 use Rattle.plane_view.specs.Reflect.{reflected}
-use Rattle.malvar.specs.Demosaic.{Weights, Table, rounded}
+use Rattle.malvar.specs.Demosaic.{Weights, Table, rounded, weights_by}
 use Rattle.malvar.specs.declared.filters.Around.{Around}
 use Rattle.malvar.specs.declared.filters.Site.{Site}
 use Rattle.malvar.specs.declared.filters.Site.TheVariants.{Red, GreenByRed, GreenByBlue, Blue}
@@ -22,14 +22,6 @@ abbrev pub weighted : Weights → Around → ℤ
 weighted w a =
     w.centre *ℤ pos a.centre +ℤ w.horizontal *ℤ pos a.horizontal +ℤ w.vertical *ℤ pos a.vertical
     +ℤ w.diagonal *ℤ pos a.diagonal +ℤ w.horizontal_2 *ℤ pos a.horizontal_far +ℤ w.vertical_2 *ℤ pos a.vertical_far
-
--- the weights for a wanted colour at a pixel of another colour, by its own colour and that of its right neighbour
-abbrev pub weights_by : Table → ℕ → ℕ → ℕ → Weights
-weights_by table own right wanted =
-    if nat_eq wanted 1 then table.green
-    else if nat_eq own 1
-    then (if nat_eq right wanted then table.in_row else table.in_column)
-    else table.opposite
 
 -- the sample of a wanted colour, by the pixel's own colour and that of its neighbour to the right
 abbrev pub sample_by : Table → ℕ → ℕ → Around → ℕ → ℕ

@@ -9,10 +9,10 @@ use Rattle.plane_view.proofs.Reflections.{reflected_at, reflected_near, pixel_wi
 use Rattle.malvar.specs.Pattern.{colour_at}
 use Rattle.malvar.specs.declared.Kind.{Kind}
 use Rattle.malvar.specs.declared.Kind.TheVariants.{Malvar, Bilinear}
-use Rattle.malvar.specs.Demosaic.{Weights, bilinear, table_of, reach_of, weights_at, weighted_sum, rounded}
-use Rattle.malvar.specs.Demosaic.{demosaiced_at}
+use Rattle.malvar.specs.Demosaic.{Weights, bilinear, table_of, reach_of, weights_at, weights_by, weighted_sum}
+use Rattle.malvar.specs.Demosaic.{rounded, demosaiced_at}
 use Rattle.malvar.specs.Demosaic.{here, up_1, up_2, down_1, down_2, left_1, left_2, right_1, right_2}
-use Rattle.malvar.specs.inner.Around.{weighted, weights_by, sample_by, around_in, around_of}
+use Rattle.malvar.specs.inner.Around.{weighted, sample_by, around_in, around_of}
 use Rattle.malvar.specs.declared.filters.Around.{Around}
 
 -- the sums at row r, column c, each place by its steps
