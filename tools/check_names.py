@@ -8,7 +8,7 @@ It reads the files that git doesn't ignore, and looks at seven things:
 - the old line of each must-fail edit stands exactly once in its file, and the new one differs from it;
 - each path that a document names is there, and in CONTRIBUTING.md each path of a crate is one of some crate;
 - each library that `crates.txt` gives a crate stands in its sources;
-- no two lemmas state the same, whatever their names and those of their variables;
+- no two lemmas state the same, whatever their names, those of their variables, and the order of what they ask;
 - no line of code, proofs, tools or prose passes 120 columns, but for attributes, which `rt fmt` joins, for tables and
   for what a program printed;
 - no file of code or proofs passes 800 lines.
@@ -33,7 +33,10 @@ USE = re.compile(r"\buse Rattle\.([^{}\s]+)\.\{([^}]*)\}")
 # Files that the toolchain writes: types, contracts and goals as proofs see them.
 WRITTEN = re.compile(r"\.(declared|contracts|Given|Goals)(\.|$)")
 LEMMA = re.compile(r"^(?:pub )?([^\s(){},:]+) : ((?:.*\n)(?:[ \t]+.*\n)*)", re.M)
-WORD = re.compile(r"[A-Za-z_'][\w'-]*")
+# A bracket or a separator, the dot after the variables of a λ, or all up to the next of these.
+TOKEN = re.compile(r"[()\[\]{},;]|\.(?!\S)|(?:(?!\.(?!\S))[^\s()\[\]{},;])+")
+WORD = re.compile(r"[^\W\d][\w'-]*")
+OPENING, CLOSING = "([{", ")]}"
 DOCUMENTED = re.compile(r"`([\w.+-]+(?:/[\w.+-]+)+)/?`|\]\(([\w./-]+)\)")
 
 
@@ -116,18 +119,110 @@ def unused_libraries():
                 yield f"{crate} doesn't name {library}"
 
 
+def split_at(tokens, separators):
+    """The parts of tokens between separators that stand in no bracket."""
+    parts, depth = [[]], 0
+    for token in tokens:
+        depth += (token in OPENING) - (token in CLOSING)
+        if depth == 0 and token in separators:
+            parts.append([])
+        else:
+            parts[-1].append(token)
+    return parts
+
+
+def bracket_at(tokens, start):
+    """Where the bracket that opens at a place is closed, or the end."""
+    depth = 0
+    for place in range(start, len(tokens)):
+        depth += (tokens[place] in OPENING) - (tokens[place] in CLOSING)
+        if depth == 0:
+            return place
+    return len(tokens) - 1
+
+
+def variables_at(tokens, start):
+    """The variables that brackets as `(x y : T)` or `{T}` bind from a place on, each with its type, and where such
+    brackets end."""
+    bound = []
+    while start < len(tokens) and tokens[start] in ("(", "{"):
+        end = bracket_at(tokens, start)
+        names, *types = split_at(tokens[start + 1:end], (":",))
+        if not names or not all(map(WORD.fullmatch, names)) or not types and tokens[start] == "(":
+            break
+        bound += [(name, types[0] if types else []) for name in names]
+        start = end + 1
+    return bound, start
+
+
+def renamed(tokens, name_of, inner=0):
+    """The tokens without the names of variables: what `name_of` makes of the outer ones, and for one that they bind
+    themselves how many stand around it."""
+    written, place, inside = [], 0, {}
+
+    def named(word):
+        return inside[word] if word in inside else name_of(word)
+
+    while place < len(tokens):
+        token = tokens[place]
+        bound, end = variables_at(tokens, place)
+        if token == "λ":
+            end = place + tokens[place:].index(".")
+            bound = variables_at(tokens, place + 1)[0] or [(name, []) for name in tokens[place + 1:end]]
+            # what a λ says of its variables' types follows from where it stands
+            written.append(f"λ{len(bound)}")
+            inside |= {name: f"b{inner + number}" for number, (name, _) in enumerate(bound)}
+            inner += len(bound)
+            place = end + 1
+        elif bound and end < len(tokens) and tokens[end] in ("→", "×"):
+            for name, of in bound:
+                written += ["(", *renamed(of, named, inner), ")"]
+                inside[name] = f"b{inner}"
+                inner += 1
+            place = end
+        elif token in OPENING:
+            end = bracket_at(tokens, place)
+            written += [token, *renamed(tokens[place + 1:end], named, inner), tokens[end]]
+            place = end + 1
+        else:
+            word = WORD.match(token)
+            written.append(named(word[0]) + token[word.end():] if word else token)
+            place += 1
+    return written
+
+
 def statement(text):
-    """A lemma's statement, with its variables numbered in their order."""
-    text = " ".join(text.split())
-    groups = re.findall(r"[({]([^(){}:]+?) :|λ ([^.()]+)\.", text)
-    variables = {word for pair in groups for word in " ".join(pair).split()}
+    """A lemma's statement, with its variables numbered from its conclusion on, and what it asks in an order of which
+    names decide nothing."""
+    *asked, conclusion = split_at(TOKEN.findall(text), ("→",))
+    types, asks = {}, []
+    for part in asked:
+        bound, end = variables_at(part, 0)
+        if end == len(part):
+            types.update(bound)
+        else:
+            asks.append(part)
+    cited = {word[0] for part in (conclusion, *asks, *types.values()) for word in map(WORD.match, part) if word}
+    # a variable that nothing cites is the name of something asked
+    asks += [of for name, of in types.items() if name not in cited]
     numbers = {}
 
-    def numbered(match):
-        word = match[0]
-        return f"v{numbers.setdefault(word, len(numbers))}" if word in variables else word
+    def known(word):
+        return numbers.get(word, "?") if word in types else word
 
-    return WORD.sub(numbered, text)
+    def numbered(word):
+        return numbers.setdefault(word, f"v{len(numbers)}") if word in types else word
+
+    stated = [renamed(conclusion, numbered)]
+    while asks:
+        asks.sort(key=lambda part: renamed(part, known))
+        stated.append(renamed(asks.pop(0), numbered))
+    stated[1:] = sorted(stated[1:])
+    for name in types:
+        if name in cited:
+            numbered(name)
+    of = {numbers[name]: renamed(types[name], numbered) for name in types if name in cited}
+    return " → ".join(" ".join(part) for part in stated + [of[name] for name in numbers.values()])
 
 
 def lemmas_twice():
