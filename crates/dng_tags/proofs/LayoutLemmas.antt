@@ -5,7 +5,7 @@ use Rattle.std.specs.Prelude.{slice_get}
 use Rattle.std.specs.List.{range_with_len}
 use Rattle.std.proofs.lemmas.Nat.{div-add-mod', le-div, mod_below, div_below, mul-le, div-mul-add, mod-mul-add}
 use Rattle.std.proofs.lemmas.Nat.{mul-add-lt}
-use Rattle.std.proofs.Math.Nat.{div-mul-le_self}
+use Rattle.std.proofs.Math.Nat.{div-mul-le_self, div-eq_of_lt-le}
 use Rattle.std.proofs.lemmas.List.FromFn.{map-range_with_len_more, length-map-range_with_len}
 use Rattle.std.proofs.lemmas.Bool.{cases_lt}
 use Rattle.plane_view.specs.Rectangles.{HasPixel, height}
@@ -97,12 +97,6 @@ made_value f n k x there =
     slice_get-made f 0 n k (made_within f n k x there) ∙ ap (λ i. Some (f i)) (omega arith) in
     cc
 
--- the place of a number among parts of a size
-quotient_is : (q size x : ℕ) → q * size ≤ x → x < q * size + size → x / size ≡ q
-quotient_is q size x low high =
-    let e : q * size + (x - q * size) ≡ x = omega arith in
-    ap (λ n. n / size) (sym e) ∙ div-mul-add q size (x - q * size) (omega arith)
-
 -- a number is in its own part
 above_quotient : (size x : ℕ) → 1 ≤ size → x < x / size * size + size
 above_quotient size x some = omega (arith, div-add-mod' x size, mod_below x size (omega arith))
@@ -178,14 +172,12 @@ pixel_there shape cut r c sides row col =
 row_of_segment : (shape : Shape) (cut : Cut) (k r c : ℕ) → HasPixel (rect_at shape cut k) r c
     → r / cut.rows ≡ k / segments_across shape cut
 unfolding rect_at
-row_of_segment shape cut k r c pixel = quotient_is (k / segments_across shape cut) cut.rows r pixel.top
-    (omega (arith, pixel.bottom))
+row_of_segment shape cut k r c pixel = div-eq_of_lt-le cut.rows pixel.top (omega (arith, pixel.bottom))
 
 col_of_segment : (shape : Shape) (cut : Cut) (k r c : ℕ) → HasPixel (rect_at shape cut k) r c
     → c / cut.cols ≡ k % segments_across shape cut
 unfolding rect_at
-col_of_segment shape cut k r c pixel = quotient_is (k % segments_across shape cut) cut.cols c pixel.left
-    (omega (arith, pixel.right))
+col_of_segment shape cut k r c pixel = div-eq_of_lt-le cut.cols pixel.left (omega (arith, pixel.right))
 
 -- two segments with one pixel are one
 one_segment : (shape : Shape) (cut : Cut) (i k r c : ℕ) → HasPixel (rect_at shape cut i) r c

@@ -2,7 +2,7 @@
 use Rattle.std.proofs.Common.{◌≡◌, ℕ, ◌+◌, ◌-◌, ◌*◌, ◌/◌, ◌%◌, ◌<◌, ◌≤◌, length, slice_get, Some, true, sym, ◌∙◌, ap}
 use Rattle.std.proofs.Common.{subst, arith}
 use Rattle.std.specs.List.{list_any}
-use Rattle.std.proofs.Math.Nat.{mul-le-mul_right}
+use Rattle.std.proofs.Math.Nat.{mul-le-mul_right, div-eq_of_lt-le}
 use Rattle.std.proofs.lemmas.Nat.{div-mul-add, mod-mul-add, mul-add-lt, div_below, mod_below, le-div, div-add-mod'}
 use Rattle.std.proofs.lemmas.List.FromFn.{length-map-range_with_len, get_or-map-range_with_len}
 use Rattle.std.proofs.lemmas.Option.{slice_get-get_or, slice_get_within}
@@ -90,21 +90,15 @@ grid_pixel shape side some r c row col =
     any_at (has_pixel r c) (grid_cells shape side) k cell (grid_at shape side k below ∙ ap Some is)
     (has_pixel-true r c cell pixel)
 
--- the row of cells that a row of pixels is in
-row_of : (side i r : ℕ) → i * side ≤ r → r < i * side + side → r / side ≡ i
-row_of side i r from to =
-    let is : r ≡ i * side + (r - i * side) = omega arith in
-    ap (λ n. n / side) is ∙ div-mul-add i side (r - i * side) (omega arith)
-
 -- a pixel is in one cell alone
 grid_apart : (shape : Shape) (side : ℕ) (i k : ℕ) → i < grid_count shape side → k < grid_count shape side → (r c : ℕ)
     → HasPixel (grid_rect shape side i) r c → HasPixel (grid_rect shape side k) r c → i ≡ k
 grid_apart shape side i k below_i below_k r c in_i in_k =
     let across : ℕ = cells_along shape.cols side in
-    let row_i : r / side ≡ i / across = row_of side (i / across) r in_i.top (omega (arith, in_i.bottom)) in
-    let row_k : r / side ≡ k / across = row_of side (k / across) r in_k.top (omega (arith, in_k.bottom)) in
-    let col_i : c / side ≡ i % across = row_of side (i % across) c in_i.left (omega (arith, in_i.right)) in
-    let col_k : c / side ≡ k % across = row_of side (k % across) c in_k.left (omega (arith, in_k.right)) in
+    let row_i : r / side ≡ i / across = div-eq_of_lt-le side in_i.top (omega (arith, in_i.bottom)) in
+    let row_k : r / side ≡ k / across = div-eq_of_lt-le side in_k.top (omega (arith, in_k.bottom)) in
+    let col_i : c / side ≡ i % across = div-eq_of_lt-le side in_i.left (omega (arith, in_i.right)) in
+    let col_k : c / side ≡ k % across = div-eq_of_lt-le side in_k.left (omega (arith, in_k.right)) in
     let rows : i / across ≡ k / across = sym row_i ∙ row_k in
     let cols : i % across ≡ k % across = sym col_i ∙ col_k in
     sym (div-add-mod' i across) ∙ ap (λ n. n * across + i % across) rows ∙ ap (λ n. k / across * across + n) cols
