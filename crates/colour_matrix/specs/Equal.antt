@@ -11,6 +11,7 @@ use Rattle.colour_matrix.specs.Matrices.{matrixed}
 use Rattle.colour_matrix.specs.contracts.balance.BalancePartialEq.TheImpl as balance
 use Rattle.colour_matrix.specs.contracts.matrix.MatrixPartialEq.TheImpl as matrix
 
+-- equal stages of balance are alike: they take, make and need the same
 pub same_balances : (s t : Balancing) → balance.ghosts.eq s t ≡ true
     → AreAlike (λ (s : Balancing) (input : Shape). input.planes ≡ 3) (λ (s : Balancing) (input : Shape). input)
     (λ (s : Balancing) (input : Shape) (rect : Rect). rect) (λ (s : Balancing) P. balanced s P) s t
@@ -20,6 +21,7 @@ same_balances s t equal =
     let same : s ≡ t = λ i. record { gains = gains i; exposure = exposure i } in
     alike_same _ _ _ _ s t same
 
+-- equal stages of a matrix are alike: they take, make and need the same
 pub same_matrices : (s t : List ℤ) → matrix.ghosts.eq s t ≡ true
     → AreAlike (λ (s : List ℤ) (input : Shape). input.planes ≡ 3) (λ (s : List ℤ) (input : Shape). input)
     (λ (s : List ℤ) (input : Shape) (rect : Rect). rect) (λ (s : List ℤ) P. matrixed s P) s t
