@@ -16,13 +16,15 @@ use Rattle.dev_stages.specs.declared.fault.PlanFault.TheVariants as fault
 use Rattle.dev_stages.specs.declared.stage.DevStage.{DevStage}
 use Rattle.dev_stages.specs.declared.stage.DevStage.TheVariants.{Matrix}
 
--- the numbers, counted from 1, of the stages that settings change
+-- the number, counted from 1, of the stage of linear values
 abbrev pub linear_number : Frame → ℕ
 linear_number frame = length (listed frame.list1) + 2
 
+-- the number of the stage of demosaicing, counted from 1
 abbrev pub demosaic_number : Frame → ℕ
 demosaic_number frame = length (listed frame.list1) + length (listed frame.list2) + 3
 
+-- the number of the stage of balance, counted from 1; the matrix and the tone curve follow
 abbrev pub balance_number : Frame → ℕ
 balance_number frame =
     length (listed frame.list1) + length (listed frame.list2) + length (listed frame.list3) + 5

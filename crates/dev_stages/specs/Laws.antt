@@ -34,6 +34,7 @@ use Rattle.dev_stages.specs.declared.stage.DevStage.TheVariants.{Linearise, Map,
 use Rattle.dev_stages.specs.contracts.stage.DevStagePartialEq.TheImpl.{ghosts}
 use Rattle.dev_stages.specs.Members.{apply_of, needed_of, shaped_of, takes_of}
 
+-- of a shape that it takes, a stage makes a shape
 pub shapes_of : (s : DevStage) (input : Shape) → IsShape input → takes_of s input → IsShape (shaped_of s input)
 shapes_of (FixConstant s) input is takes = is
 shapes_of (FixList s) input is takes = is
@@ -45,6 +46,7 @@ shapes_of (Balance s) input is takes = is
 shapes_of (Matrix s) input is takes = is
 shapes_of (Tone s) input is takes = is
 
+-- of a plane that it takes, a stage makes a plane of its shape
 pub planes_of : (s : DevStage) (input : Shape) (P : Plane) → takes_of s input → IsPlane P input
     → IsPlane (apply_of s P) (shaped_of s input)
 planes_of (FixConstant s) input P takes is =
@@ -60,6 +62,7 @@ planes_of (Balance s) input P takes is = planes_by (λ t. t) (λ t at. balanced_
 planes_of (Matrix s) input P takes is = planes_by (λ t. t) (λ t at. matrixed_at s at) input P is
 planes_of (Tone s) input P takes is = planes_by (λ t. t) (λ t at. entry_at s at) input P is
 
+-- what a stage needs for a part of its plane is a part of the plane below
 pub parts_of : (s : DevStage) (input : Shape) (rect : Rect) → takes_of s input → IsPart rect (shaped_of s input)
     → IsPart (needed_of s input rect) input
 parts_of (FixConstant s) input rect takes part = mend_needs input rect part
@@ -72,6 +75,7 @@ parts_of (Balance s) input rect takes part = part
 parts_of (Matrix s) input rect takes part = part
 parts_of (Tone s) input rect takes part = part
 
+-- each stage is local: a part of its plane rests on what it needs for that part alone
 pub local_of : (s : DevStage) (input : Shape) (rect : Rect) → takes_of s input → IsPart rect (shaped_of s input)
     → IsLocal (apply_of s) input (needed_of s input rect) rect
 local_of (FixConstant s) input rect takes part =
@@ -99,6 +103,7 @@ local_of (Matrix s) input rect takes part = local_by (λ t. t) (λ t at. matrixe
 local_of (Tone s) input rect takes part = local_by (λ t. t) (λ t at. entry_at s at) input rect rect part
     (entry_rests s input.planes rect)
 
+-- equal stages take, make and need the same
 pub alike_of : (s t : DevStage) → ghosts.eq s t ≡ true → AreAlike takes_of shaped_of needed_of apply_of s t
 alike_of (FixConstant s) (FixConstant t) h = let a = constant_alike s t h in
     record { inputs = a.inputs; shapes = a.shapes; needs = a.needs; meanings = a.meanings }
