@@ -60,15 +60,15 @@ started chosen file settings =
 abbrev pub Opening : Type 0
 Opening = Result InForce Refusal
 
--- of words that aren't accepted
+-- what words that aren't accepted call for
 abbrev pub refused_words : Opening
 refused_words = Err (record { bytes = usage_line; status = statuses.Usage })
 
--- of a frame that is refused
+-- what a frame that is refused calls for
 abbrev pub refused_frame : FrameFault → Refusal
 refused_frame fault = record { bytes = refusal_line fault; status = statuses.Frame }
 
--- of settings that are refused
+-- what settings that are refused call for
 abbrev pub refused_settings : Refused → Refusal
 refused_settings refused = record { bytes = settings_line refused; status = statuses.Settings }
 
@@ -84,7 +84,7 @@ file_frame bytes =
     then Err TooLong
     else and_then (frame_of bytes) (λ frame. if_decoded frame (undecoded bytes frame))
 
--- of the frame's file, by its bytes, which are a frame or its refusal
+-- the frame's file, by its bytes and by the frame that they are, or its refusal
 abbrev pub frame_as : List ℕ → Result Frame FrameFault → Result FrameFile Refusal
 frame_as bytes (Ok frame) = Ok (record { bytes = bytes; frame = frame })
 frame_as bytes (Err fault) = Err (refused_frame fault)
@@ -94,33 +94,34 @@ abbrev pub told_frame : Option (List ℕ) → Option (Result FrameFile Refusal)
 told_frame None = None
 told_frame (Some bytes) = Some (frame_as bytes (file_frame bytes))
 
--- of settings for an accepted frame, or their refusal
+-- what an accepted frame calls for under these settings, or under their refusal
 abbrev pub opened_by : Options → FrameFile → Result Settings Refused → Opening
 opened_by chosen file (Ok settings) = Ok (started chosen file settings)
 opened_by chosen file (Err refused) = Err (refused_settings refused)
 
--- of a settings file, where its bytes are told
+-- what an accepted frame calls for under a settings file, where its bytes are told
 abbrev pub opened_under : Options → FrameFile → Option (List ℕ) → Option Opening
 opened_under chosen file None = None
 opened_under chosen file (Some bytes) = Some (opened_by chosen file (file_settings file.frame bytes))
 
--- of the name of a settings file; without one the settings are the standard ones
+-- what an accepted frame calls for under the settings file of this name; without a name the settings are the standard
+-- ones
 abbrev pub opened_named : Options → FrameFile → Option (List ℕ) → (List ℕ → Option (List ℕ)) → Option Opening
 opened_named chosen file None told = Some (opened_by chosen file (Ok standard_settings))
 opened_named chosen file (Some name) told = opened_under chosen file (told name)
 
--- of the frame's file, and then of the settings file
+-- what the frame's file calls for, and then the settings file
 abbrev pub opened_next : Options → Option (Result FrameFile Refusal) → (List ℕ → Option (List ℕ)) → Option Opening
 opened_next chosen None told = None
 opened_next chosen (Some (Err refusal)) told = Some (Err refusal)
 opened_next chosen (Some (Ok file)) told = opened_named chosen file chosen.settings told
 
--- of what the words ask for
+-- what the options call for; None of the options stands for words that aren't accepted
 abbrev pub opened_for : Option Options → (List ℕ → Option (List ℕ)) → Option Opening
 opened_for None told = Some refused_words
 opened_for (Some chosen) told = opened_next chosen (told_frame (told chosen.frame)) told
 
--- Of the words and of what is told of the files by name. None where it hangs on what isn't told.
+-- What the words call for, by what is told of the files by name. None where it hangs on what isn't told.
 abbrev pub opened : List (List ℕ) → (List ℕ → Option (List ℕ)) → Option Opening
 opened words told = opened_for (options words) told
 

@@ -24,32 +24,33 @@ use Rattle.developer.specs.Answers.{Answer}
 use Rattle.developer.specs.Develop.{develop}
 use Rattle.developer.specs.Sessions.{InForce, after_bands, bands_of, restaged}
 
--- of a change that was made
+-- the reply to a change that was made
 abbrev pub done : List ℕ
 done = codes "ok\n"
 
--- of a region that isn't one of the plane
+-- the reply to a region that isn't a part of the developed plane
 abbrev pub no_region : List ℕ
 no_region = codes "no region\n"
 
--- of a line with more than 4,096 bytes
+-- the reply to a line with more than 4,096 bytes
 abbrev pub no_line : List ℕ
 no_line = codes "no line\n"
 
--- of a line that is no command
+-- the reply to a line that is no command
 abbrev pub no_command : LineFault → List ℕ
 no_command lines.Word = codes "no word\n"
 no_command lines.Key = codes "no key\n"
 no_command lines.Value = codes "no value\n"
 no_command lines.Region = no_region
 
--- of a change after which the frame has no stages. No definition answers "out of memory"
+-- the reply to a change after which the frame has no stages; no definition answers "out of memory"
 abbrev pub no_stages : PlanFault → List ℕ
 no_stages plans.Matrix = codes "no matrix\n"
 no_stages plans.Levels = codes "no levels\n"
 no_stages plans.Memory = codes "no levels\n"
 
--- of `stat`: how many cells were fetched and run since the frame was opened, how many samples are kept, and the budget
+-- the reply to `stat`: how many cells were fetched and run since the frame was opened, how many samples are kept, and
+-- the budget in samples
 abbrev pub stat_reply : Session DevStage → List ℕ
 stat_reply s =
     codes "stat " ++ decimal s.fetched ++ codes " " ++ decimal s.ran ++ codes " " ++ decimal (samples_kept s)
@@ -90,24 +91,26 @@ part_in now x y w h = part_of (developed now) x y w h
 abbrev pub replied : InForce → List ℕ → Answer InForce
 replied now bytes = record { bytes = bytes; state = now }
 
--- of a region: its bands are made, one after the other
+-- the bands of a region, one for each row of cells that it meets; none where it isn't a part of the plane
 abbrev pub bands_in : (side : ℕ) → Option Rect → List Rect
 bands_in side (Some rect) = bands_of side rect
 bands_in side None = []
 
+-- the answer to a region: its bands are made, one after the other
 unfoldable pub region_answer : InForce → Format → Option Rect → Answer InForce
 region_answer now format part = record {
   bytes = region_reply (developed now) format part;
   state = record now { session = after_bands now.session (bands_in now.session.side part) };
 }
 
--- of settings after a change, by the stages of the frame under them: the change is made where there are such
+-- the answer to a change, by the settings after it and by the stages of the frame under these: it is made where there
+-- are such stages
 abbrev pub set_by : InForce → ℕ → Settings → Result (List DevStage) PlanFault → Answer InForce
 set_by now k after (Ok stages) =
     record { bytes = done; state = record now { settings = after; session = restaged now.session k stages } }
 set_by now k after (Err fault) = replied now (no_stages fault)
 
--- of a change
+-- the answer to a change
 unfoldable pub set_answer : InForce → Change → Answer InForce
 set_answer now change =
     set_by now (number_of now.frame change) (changed change now.settings)
@@ -129,14 +132,16 @@ line_answer now None = replied now no_line
 unfoldable pub answer_of : InForce → List ℕ → Answer InForce
 answer_of now line = line_answer now (line_text_of line)
 
--- the bands of the region that a line asks for, if it asks for one
+-- the bands of the region that a command asks for; none where it asks for no region
 abbrev pub command_bands : InForce → Result Command LineFault → List Rect
 command_bands now (Ok (Region x y w h format)) = bands_in now.session.side (part_in now x y w h)
 command_bands now _ = []
 
+-- the bands of the region that a line's text asks for; none of a line that is too long
 abbrev pub line_bands : InForce → Option (List ℕ) → List Rect
 line_bands now (Some text) = command_bands now (command_of text)
 line_bands now None = []
 
+-- the bands of the region that a line of the script asks for
 unfoldable pub bands_for : InForce → List ℕ → List Rect
 bands_for now line = line_bands now (line_text_of line)

@@ -20,6 +20,7 @@ pub record InForce : Type 0 where
   pub settings : Settings
   pub session : Session DevStage
 
+-- a frame's record, settings and a session, as what is in force
 abbrev pub in_force : Frame → Settings → Session DevStage → InForce
 in_force frame settings session = record { frame = frame; settings = settings; session = session }
 
@@ -36,11 +37,12 @@ after_band s band = record s {
   keys = keys_after shaped_of needed_of s band;
 }
 
--- bands, one after the other: the session after them, and how many cells they make
+-- the session after these bands, made one after the other
 abbrev pub after_bands : Session DevStage → List Rect → Session DevStage
 after_bands s [] = s
 after_bands s (band ∷ bands) = after_bands (after_band s band) bands
 
+-- how many cells these bands make, one after the other
 abbrev pub cells_of_bands : Session DevStage → List Rect → ℕ
 cells_of_bands s [] = 0
 cells_of_bands s (band ∷ bands) = cells_of_band s band + cells_of_bands (after_band s band) bands

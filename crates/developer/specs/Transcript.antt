@@ -17,7 +17,7 @@ pub record Transcript : Type 0 where
   pub status : Status
   pub session : Option (Session DevStage)
 
--- the longest script
+-- the most bytes that a script may have
 abbrev pub max_script : ℕ
 max_script = 2 ^ 24
 
@@ -25,28 +25,28 @@ max_script = 2 ^ 24
 abbrev pub answers_to : InForce → List (List ℕ) → Answer InForce
 answers_to now lines = answers answer_of now lines
 
--- of lines that were answered
+-- the transcript of lines that were answered
 abbrev pub by_answers : Answer InForce → Status → Transcript
 by_answers answer status = record { bytes = answer.bytes; status = status; session = Some answer.state.session }
 
--- of a refusal
+-- the transcript of a refusal
 abbrev pub by_refusal : Refusal → Transcript
 by_refusal refusal = record { bytes = refusal.bytes; status = refusal.status; session = None }
 
--- over an opened frame: the answers to the lines of the script; where it is too long, to the complete ones of its
--- prefix
+-- the transcript over an opened frame: the answers to the lines of the script; where it is too long, to the complete
+-- lines of its prefix
 unfoldable pub by_script : InForce → List ℕ → Transcript
 by_script now script =
     if nat_lt max_script (length script)
     then by_answers (answers_to now (lines_of (take max_script script)).complete) ScriptTooLong
     else by_answers (answers_to now (all_lines (lines_of script))) Done
 
--- over an opened frame, where the script is told
+-- the transcript over an opened frame, where the script is told
 abbrev pub by_told_script : InForce → Option (List ℕ) → Option Transcript
 by_told_script now None = None
 by_told_script now (Some script) = Some (by_script now script)
 
--- over what the words and the files call for
+-- the transcript over what the words and the files call for
 abbrev pub by_opening : Option Opening → Option (List ℕ) → Option Transcript
 by_opening None script = None
 by_opening (Some (Ok now)) script = by_told_script now script

@@ -30,18 +30,20 @@ seen (refusals.Value name) = value (string_bytes name)
 seen refusals.Matrix = no_matrix
 seen refusals.Levels = no_levels
 
--- a failed read, a fault of the file and a fault of the plan as reasons for which there are no stages
+-- a failed read of a settings file, as the reason why there are no stages
 abbrev pub stop_of_read : ReadFault → SettingsStop
 stop_of_read reads.TooLong = stops.Refused refusals.TooLong
 stop_of_read reads.Failed = stops.Unread
 stop_of_read reads.Memory = stops.Memory
 
+-- a fault of a settings file, as the reason why there are no stages
 abbrev pub stop_of_file : SettingsFault → SettingsStop
 stop_of_file files.NotToml = stops.Refused refusals.NotToml
 stop_of_file (files.Key name) = stops.Refused (refusals.Key name)
 stop_of_file (files.Value name) = stops.Refused (refusals.Value name)
 stop_of_file files.Memory = stops.Memory
 
+-- a fault of the plan, as the reason why there are no stages
 abbrev pub stop_of_plan : PlanFault → SettingsStop
 stop_of_plan plans.Matrix = stops.Refused refusals.Matrix
 stop_of_plan plans.Levels = stops.Refused refusals.Levels
