@@ -39,6 +39,7 @@ abbrev pub diagonal_of : List ℤ → List ℤ
 diagonal_of entries =
     slice_index_or entries 0 (pos 0) ∷ slice_index_or entries 4 (pos 0) ∷ slice_index_or entries 8 (pos 0) ∷ []
 
+-- whether a number is 0
 abbrev pub is_zero : ℤ → Bool
 is_zero n = unsigned_abs n == 0
 

@@ -20,10 +20,11 @@ use Rattle.tag_rules.specs.declared.tags.Tag.TheVariants.{TileLength, TileOffset
 abbrev pub parts : (length size : ℕ) → ℕ
 parts length size = (length + (size - 1)) / size
 
--- how many segments stand side by side, and how many there are
+-- how many segments stand side by side
 abbrev pub segments_across : Shape → Cut → ℕ
 segments_across shape cut = parts shape.cols cut.cols
 
+-- how many segments there are
 abbrev pub segment_count : Shape → Cut → ℕ
 segment_count shape cut = parts shape.rows cut.rows * segments_across shape cut
 

@@ -14,10 +14,11 @@ use Rattle.tag_rules.specs.declared.faults.FrameFault.TheVariants.{Trim}
 use Rattle.dng_tags.specs.declared.listed.Listed.{Listed}
 use Rattle.dng_tags.specs.declared.record.Frame.{Frame}
 
--- the plane of the active area, and such a plane with three colours
+-- the shape of the active area: one plane
 abbrev pub area_shape : Rect → Shape
 area_shape active = record { rows = height active; cols = width active; planes = 1 }
 
+-- a shape of as many rows and columns with three planes
 abbrev pub coloured_shape : Shape → Shape
 coloured_shape shape = record { rows = shape.rows; cols = shape.cols; planes = 3 }
 
@@ -31,12 +32,14 @@ unfoldable pub listed_of : Dirs → ℕ → Shape → Result Listed FrameFault
 listed_of dirs list found =
     and_then (opcodes_under dirs list) (λ opcodes. with_trims list opcodes (trimmed opcodes found))
 
--- the shapes of what the opcodes of each list leave of a frame
+-- the shape that list 1 leaves of the frame's plane
 abbrev pub after_list1 : Frame → Shape
 after_list1 frame = left_after frame.list1 frame.shape
 
+-- the shape that list 2 leaves of the active area
 abbrev pub after_list2 : Frame → Shape
 after_list2 frame = left_after frame.list2 (area_shape frame.active)
 
+-- the shape that list 3 leaves of the demosaiced plane
 abbrev pub after_list3 : Frame → Shape
 after_list3 frame = left_after frame.list3 (coloured_shape (after_list2 frame))
