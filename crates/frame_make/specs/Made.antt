@@ -65,13 +65,15 @@ compression_of Plain16 = 1
 compression_of Packed12 = 1
 compression_of Lossless = 7
 
--- an entry of numbers of 16 bits, of 32 bits, of bytes
+-- an entry of numbers of 16 bits (SHORT)
 abbrev pub shorts : ℕ → List ℕ → Field
 shorts tag numbers = record { tag = tag; kind = 3; count = length numbers; value = Shorts numbers }
 
+-- an entry of numbers of 32 bits (LONG)
 abbrev pub longs : ℕ → List ℕ → Field
 longs tag numbers = record { tag = tag; kind = 4; count = length numbers; value = Longs numbers }
 
+-- an entry of bytes (BYTE)
 abbrev pub bytes_under : ℕ → List ℕ → Field
 bytes_under tag numbers = record { tag = tag; kind = 1; count = length numbers; value = Bytes numbers }
 
