@@ -17,6 +17,7 @@ abbrev pub IsCoding : Coding → Type 0
 IsCoding (Packed order depth) = (8 ≤ depth) × (depth ≤ 16)
 IsCoding LosslessJpeg = ⊤
 
+-- it has no more than one proof
 pub IsCoding-prop : (coding : Coding) → IsProp (IsCoding coding)
 IsCoding-prop (Packed order depth) = hlevel props
 IsCoding-prop LosslessJpeg = hlevel props
