@@ -6,13 +6,15 @@ use Rattle.std.specs.Int.{to_le_bytes, w16, w32}
 use Rattle.std.specs.List.{flat_map}
 use Rattle.image_out.specs.declared.tiff.Entry.{Entry}
 
--- the types of numbers ("Types")
+-- the type of whole numbers of 16 bits ("Types", SHORT)
 abbrev pub short : ℕ
 short = 3
 
+-- the type of whole numbers of 32 bits ("Types", LONG)
 abbrev pub long : ℕ
 long = 4
 
+-- the type of fractions of two numbers of 32 bits ("Types", RATIONAL)
 abbrev pub rational : ℕ
 rational = 5
 
