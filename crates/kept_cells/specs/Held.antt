@@ -51,9 +51,10 @@ AreRight apply held plane P (tier ∷ tiers) =
     IsRight held (plane + 1) (apply tier.stage P) tier.cells
     × AreRight apply held (plane + 1) (apply tier.stage P) tiers
 
--- those of the numbers whose cells are held, and those whose cells aren't
+-- those of the numbers whose cells of this plane are held
 abbrev pub fresh : Held → ℕ → List ℕ → List ℕ
 fresh held plane numbers = filter (held.holds plane) numbers
 
+-- those of the numbers whose cells of this plane aren't held
 abbrev pub missing : Held → ℕ → List ℕ → List ℕ
 missing held plane numbers = filter (λ k. not (held.holds plane k)) numbers

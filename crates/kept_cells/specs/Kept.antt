@@ -13,7 +13,8 @@ use Rattle.stage_deps.specs.Cells.{meeting, cell_at}
 use Rattle.kept_cells.specs.Held.{Held, fresh, missing}
 use Rattle.kept_cells.specs.Missing.{wanted_below}
 
--- the keys with their sizes, the most recent first, and the present stamp of each plane
+-- the keys with the sizes of their cells in samples, the most recent first; the present stamp of each plane; how many
+-- keys and how many samples there may be
 pub record Kept : Type 0 where
   pub items : List (Key × ℕ)
   pub stamps : ℕ → ℕ
@@ -31,6 +32,7 @@ pub record Marks : Type 0 where
 abbrev pub key_at : Kept → ℕ → ℕ → Key
 key_at c plane k = record { stage = plane; cell = k; stamp = c.stamps plane }
 
+-- whether the key of a cell at the present stamp of its plane is there
 abbrev pub is_kept : Kept → ℕ → ℕ → Bool
 is_kept c plane k = is_some (lookup (same_key (key_at c plane k)) c.items)
 
@@ -42,11 +44,12 @@ brought c plane k = record c { items = promoted (same_key (key_at c plane k)) c.
 abbrev pub put_key : Kept → ℕ → ℕ → ℕ → Kept
 put_key c plane k n = record c { items = put_in (λ item. item.1) c.slots c.budget (key_at c plane k, n) c.items }
 
--- one number after the other
+-- the keys of these cells of a plane come first, one after the other
 abbrev pub brought_each : Kept → ℕ → List ℕ → Kept
 brought_each c plane [] = c
 brought_each c plane (k ∷ ks) = brought_each (brought c plane k) plane ks
 
+-- the keys of these cells of a plane are put, one after the other, each with its size
 abbrev pub put_each : Kept → ℕ → (ℕ → ℕ) → List ℕ → Kept
 put_each c plane size [] = c
 put_each c plane size (k ∷ ks) = put_each (put_key c plane k (size k)) plane size ks

@@ -17,6 +17,7 @@ is_some-items : (test : Key → Bool) (ps : List Pair) → is_some (lookup test 
 is_some-items test ps = ap is_some (lookup-map_values (λ (xs : List ℕ). length xs) test ps)
     ∙ is_some-map (λ (xs : List ℕ). length xs) (lookup test ps)
 
+-- a cell is held exactly where its key at the present stamp is there
 pub holds_kept : (c : Cache) (stamps : List ℕ) (plane cell : ℕ)
     → (held_in c stamps).holds plane cell ≡ is_kept (kept_in c stamps) plane cell
 holds_kept c stamps plane cell = sym (is_some-items (same_key (key_at (kept_in c stamps) plane cell)) c.pairs)
