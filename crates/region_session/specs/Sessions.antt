@@ -41,12 +41,12 @@ list_of s = record {
 abbrev pub planes_of : {S : Type 0} → (S → Shape → Shape) → Opened S → List (Tier S)
 planes_of shaped s = tiers_of shaped s.side (shape_of s.plane) s.stages
 
--- how many cells of the base's plane, and how many of the stages' planes, a rectangle of the last plane needs that
--- aren't held
+-- how many cells of the base's plane a rectangle of the last plane needs that aren't held
 abbrev pub missing_fetches : {S : Type 0} → (S → Shape → Shape) → (S → Shape → Rect → Rect) → Opened S → Rect → ℕ
 missing_fetches shaped needed s rect =
     count_of_fetches (holding (list_of s)) needed s.cells (planes_of shaped s) (rect ∷ [])
 
+-- how many cells of the stages' planes a rectangle of the last plane needs that aren't held
 abbrev pub missing_runs : {S : Type 0} → (S → Shape → Shape) → (S → Shape → Rect → Rect) → Opened S → Rect → ℕ
 missing_runs shaped needed s rect = count_of_runs (holding (list_of s)) needed 0 (planes_of shaped s) (rect ∷ [])
 
@@ -56,16 +56,18 @@ abbrev pub keys_after : {S : Type 0}
 keys_after shaped needed s rect =
     (keep_of needed (list_of s) s.plane.planes s.cells (planes_of shaped s) (rect ∷ [])).items
 
--- how many samples are kept
+-- how many samples the cells that are held have together
 abbrev pub samples_kept : {S : Type 0} → Opened S → ℕ
 samples_kept s = sum_by (λ item. item.1) s.keys
 
--- the three numbers of a tally
+-- how many cells a tally's sessions fetched
 abbrev pub fetched_of : Tally → ℕ
 fetched_of t = t.fetched
 
+-- how many cells a tally's sessions ran
 abbrev pub ran_of : Tally → ℕ
 ran_of t = t.ran
 
+-- how many samples a tally's sessions kept when they were closed
 abbrev pub kept_of : Tally → ℕ
 kept_of t = t.kept

@@ -30,6 +30,7 @@ pub(crate) struct Needed {
 }
 
 impl Needed {
+    /// Empty lists, and a part with no pixel.
     pub fn new(alloc: Global) -> Needed {
         Needed {
             numbers: Vec::new(alloc),
