@@ -45,10 +45,11 @@ numbers_of_kinds Undefined = 7 ∷ []
 abbrev pub allows : Kinds → ℕ → Bool
 allows kinds kind = list_any (λ n. kind == n) (numbers_of_kinds kinds)
 
--- whether they are types of whole numbers, and of fractions
+-- whether all of them are types of whole numbers
 abbrev pub are_whole : Kinds → Bool
 are_whole kinds = list_all is_whole (numbers_of_kinds kinds)
 
+-- whether all of them are types of fractions
 abbrev pub are_fractions : Kinds → Bool
 are_fractions kinds = list_all is_fraction (numbers_of_kinds kinds)
 
