@@ -1,4 +1,4 @@
--- Words for the contracts between functions of this crate.
+-- Definitions for the contracts between functions of this crate.
 pub mod Factors
 pub mod BalanceRows
 pub mod MatrixRows

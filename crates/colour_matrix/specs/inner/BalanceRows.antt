@@ -1,4 +1,5 @@
--- Rows of balanced samples, the three planes of a pixel side by side: this project's own.
+-- Definitions for the contracts between functions of this crate: rows of balanced samples, the three planes of a pixel
+-- side by side. This is this project's own.
 use Rattle.std.specs.Prelude.{◌≡◌, ℕ, ◌*◌, ◌/◌, ◌%◌, ◌^◌, ◌<◌, ◌≤◌, List, length, slice_index}
 use Rattle.colour_matrix.specs.Balances.{Balancing, balanced_value}
 

@@ -1,4 +1,5 @@
--- The factors of a group of samples: this project's own.
+-- Definitions for the contracts between functions of this crate: the factors of a group of samples. This is this
+-- project's own.
 use Rattle.colour_matrix.specs.declared.factors.Factors.{Factors}
 use Rattle.colour_matrix.specs.declared.factors.Factors.TheVariants.{Gains, Digits}
 use Rattle.colour_matrix.specs.Balances.{Balancing}

@@ -1,4 +1,5 @@
--- Rows of pixels that a matrix maps, the three planes of a pixel side by side: this project's own.
+-- Definitions for the contracts between functions of this crate: rows of pixels that a matrix maps, the three planes of
+-- a pixel side by side. This is this project's own.
 use Rattle.std.specs.Prelude.{◌≡◌, ℕ, zero, suc, ◌+◌, ◌*◌, ◌<◌, ◌≤◌, ℤ, pos, ◌+ℤ◌, ◌-ℤ◌, ◌*ℤ◌, List, slice_index}
 use Rattle.std.specs.Prelude.{slice_index_or, slice_set}
 use Rattle.colour_matrix.specs.declared.matrix_rows.Raised.{Raised}
