@@ -1,3 +1,3 @@
--- Words for the contracts between functions of this crate.
+-- Definitions for the contracts between functions of this crate.
 pub mod Answers
 pub mod Shown

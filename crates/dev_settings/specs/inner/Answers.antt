@@ -1,4 +1,5 @@
--- How the parts of an answer show what the definitions of a settings file say. Out of memory says nothing of the file.
+-- Definitions for the contracts between functions of this crate: how the parts of an answer show what the definitions
+-- of a settings file say. Out of memory says nothing of the file.
 use Rattle.std.specs.Prelude.{◌≡◌, ⊤, Option, Some, None, Result, MatchResult, String, string_bytes}
 use Rattle.std.specs.BTreeMap.{BTreeMap}
 use Rattle.std.specs.declared.alloc.Global.{Global}

@@ -1,4 +1,5 @@
--- The values of the definitions that the values of the code stand for.
+-- Definitions for the contracts between functions of this crate: the values of the definitions that the values of the
+-- code stand for.
 use Rattle.std.specs.Prelude.{ℕ, ℤ, List, ◌∷◌, Option, None}
 use Rattle.dev_settings.specs.Values.{point_of}
 use Rattle.dev_settings.specs.Values as values
