@@ -1,4 +1,5 @@
--- What becomes of the tally where an opened frame's session is closed into it, or isn't. This is this project's own.
+-- Definitions for the contracts between functions of this crate: what becomes of the tally where an opened frame's
+-- session is closed into it, or isn't. This is this project's own.
 use Rattle.std.specs.Prelude.{◌≡◌, Result, Ok, Err}
 use Rattle.region_session.specs.Sessions.{Opened as Session, samples_kept}
 use Rattle.region_session.specs.declared.tally.Tally.{Tally}

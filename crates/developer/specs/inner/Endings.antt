@@ -1,4 +1,5 @@
--- How a run that ended early shows its status. This is this project's own.
+-- Definitions for the contracts between functions of this crate: how a run that ended early shows its status. This is
+-- this project's own.
 use Rattle.std.specs.Prelude.{Result, Ok, Err}
 use Rattle.developer.specs.declared.status.Ending.{Ending}
 use Rattle.developer.specs.declared.status.Ending.TheVariants as endings

@@ -1,4 +1,5 @@
--- What opening a frame promises, before the script. This is this project's own.
+-- Definitions for the contracts between functions of this crate: what opening a frame promises, before the script. This
+-- is this project's own.
 use Rattle.std.specs.Prelude.{◌≡◌, ℕ, ◌≤◌, ◌⊎◌, List, Option, None, Some, IfSome, Result, Ok, Err, ⊤}
 use Rattle.raw_io.specs.Outside.{Appends, IsPrefixOf, Rises}
 use Rattle.raw_io.specs.declared.whole.ReadFault.{ReadFault}

@@ -1,4 +1,5 @@
--- Bytes of which some were written and others are held in a piece. This is this project's own.
+-- Definitions for the contracts between functions of this crate: bytes of which some were written and others are held
+-- in a piece. This is this project's own.
 use Rattle.std.specs.Prelude.{◌≡◌, ℕ, List, ◌++◌, Ok}
 use Rattle.developer.specs.inner.Writes.{Writes}
 

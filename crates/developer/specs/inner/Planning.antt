@@ -1,4 +1,5 @@
--- How an answer of the code shows what the definitions say of a settings file. "Out of memory" says nothing.
+-- Definitions for the contracts between functions of this crate: how an answer of the code shows what the definitions
+-- say of a settings file. "Out of memory" says nothing.
 use Rattle.std.specs.Prelude.{◌≡◌, ⊤, ℕ, List, Option, None, Some, IfSome, Result, Ok, Err, string_bytes}
 use Rattle.raw_io.specs.Outside.{Rises}
 use Rattle.raw_io.specs.declared.whole.ReadFault.{ReadFault}

@@ -1,4 +1,5 @@
--- What reading a script piece by piece promises. This is this project's own.
+-- Definitions for the contracts between functions of this crate: what reading a script piece by piece promises. This is
+-- this project's own.
 use Rattle.std.specs.Prelude.{◌≡◌, ℕ, ◌+◌, ◌≤◌, ◌⊎◌, List, [], length, take, Option, Some, IfSome, Result, Ok, Err}
 use Rattle.std.specs.Prelude.{IfErr, OnErr, OnOk}
 use Rattle.raw_io.specs.Outside.{Appends, IsPrefixOf, Rises, Takes}

@@ -1,4 +1,4 @@
--- What the definitions see of the code's structs.
+-- Definitions for the contracts between functions of this crate: what the definitions see of the code's structs.
 use Rattle.std.specs.Prelude.{Option, option_map}
 use Rattle.developer.specs.CommandLine.{Texts}
 use Rattle.developer.specs.Words as words

@@ -1,4 +1,5 @@
--- What writing some bytes promises. This is this project's own.
+-- Definitions for the contracts between functions of this crate: what writing some bytes promises. This is this
+-- project's own.
 use Rattle.std.specs.Prelude.{◌≡◌, ℕ, ◌≤◌, List, length, take, Result, Ok, Err, IfErr, IfOk, OnOk}
 use Rattle.raw_io.specs.Outside.{Appends}
 use Rattle.developer.specs.Answered.{ByCause}
