@@ -1,4 +1,5 @@
--- The buffer that segments are decoded into. This is this project's own.
+-- Definitions for the contracts between functions of this crate: the buffer that segments are decoded into. This is
+-- this project's own.
 use Rattle.std.specs.Prelude.{◌≡◌, ℕ, ◌+◌, ◌≤◌, ⊤, List, length, slice_get, None, Some, Result, Ok, Err, take}
 use Rattle.std.proofs.Props.{props}
 use Rattle.plane_view.specs.Rectangles.{IsNonEmpty, height, width}
