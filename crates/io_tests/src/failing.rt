@@ -7,6 +7,7 @@ use std::io::{self, ErrorKind};
 pub struct Faults<'a>(pub &'a [ErrorKind]);
 
 impl Faults<'_> {
+    /// The next call's answer.
     pub fn next(&mut self) -> io::Result<()> {
         match self.0.split_first() {
             Some((kind, rest)) => {
