@@ -177,6 +177,7 @@ impl<'a> Scan<'a> {
         self.lines() as u64 * self.row_length() as u64
     }
 
+    /// The number of lines.
     pub(crate) fn lines(&self) -> usize
         ensures is { result ≡ self.now.lines }
         ensures small { result < 2 ^ 16 }
@@ -192,6 +193,7 @@ impl<'a> Scan<'a> {
         usize::from(self.frame.columns) * self.components()
     }
 
+    /// The number of components, 1 to 4.
     pub(crate) fn components(&self) -> usize
         ensures is { result ≡ components self.now }
         ensures some { 1 ≤ result }
@@ -200,6 +202,7 @@ impl<'a> Scan<'a> {
         usize::from(self.frame.components)
     }
 
+    /// How samples are predicted.
     pub(crate) fn predictor(&self) -> Predictor
         ensures { result ≡ self.now.predictor }
     {

@@ -16,6 +16,7 @@ pub(crate) struct Pending {
 }
 
 impl Pending {
+    /// No bits.
     pub(crate) const NONE: Pending = Pending { word: 0, held: 0 };
 
     /// Adds the lowest `size` bits of a number, and writes the bytes that are whole. The lower bits stay pending.
