@@ -121,31 +121,39 @@ weights_by table own right wanted =
 abbrev pub weights_at : Table → List ℕ → ℕ → ℕ → ℕ → Weights
 weights_at table cfa r c = weights_by table (colour_at cfa r c) (colour_at cfa r (c + 1))
 
--- steps from a pixel to one near it, down and to the right
+-- no step: rows count down, and columns to the right
 abbrev pub here : ℤ
 here = pos 0
 
+-- one row up
 abbrev pub up_1 : ℤ
 up_1 = neg_ℤ (pos 1)
 
+-- two rows up
 abbrev pub up_2 : ℤ
 up_2 = neg_ℤ (pos 2)
 
+-- one row down
 abbrev pub down_1 : ℤ
 down_1 = pos 1
 
+-- two rows down
 abbrev pub down_2 : ℤ
 down_2 = pos 2
 
+-- one column to the left
 abbrev pub left_1 : ℤ
 left_1 = neg_ℤ (pos 1)
 
+-- two columns to the left
 abbrev pub left_2 : ℤ
 left_2 = neg_ℤ (pos 2)
 
+-- one column to the right
 abbrev pub right_1 : ℤ
 right_1 = pos 1
 
+-- two columns to the right
 abbrev pub right_2 : ℤ
 right_2 = pos 2
 

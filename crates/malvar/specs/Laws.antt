@@ -13,6 +13,7 @@ use Rattle.malvar.specs.inner.Around.{sample_by}
 use Rattle.malvar.specs.Mosaics.{IsMosaic, coloured}
 use Rattle.malvar.specs.inner.AroundLaws.{sample_is, around_rests, reaches}
 
+-- the shape of a demosaiced plane is a shape
 pub coloured_is_shape : (input : Shape) → IsShape input → IsShape (coloured input)
 coloured_is_shape input is =
     record {
@@ -24,6 +25,7 @@ coloured_is_shape input is =
       planes = omega arith;
     }
 
+-- a part with a margin, within the plane, is a part
 pub needed_is_part : (by : ℕ) (input : Shape) (rect : Rect) → IsPart rect (coloured input)
     → IsPart (grown rect by (whole_rect input.rows input.cols)) input
 needed_is_part by input rect part =

@@ -24,9 +24,10 @@ colours_of BlueGreenGreenRed = 2 ∷ 1 ∷ 1 ∷ 0 ∷ []
 colours_of GreenRedBlueGreen = 1 ∷ 0 ∷ 2 ∷ 1 ∷ []
 colours_of GreenBlueRedGreen = 1 ∷ 2 ∷ 0 ∷ 1 ∷ []
 
--- the kind and the colours of the pattern
+-- the kind of demosaicing: the paper's weights or the nearest samples
 abbrev pub kind_of : Demosaic → Kind
 kind_of s = s.kind
 
+-- the four colours of its pattern, row by row: 0 red, 1 green, 2 blue
 abbrev pub cfa_of : Demosaic → List ℕ
 cfa_of s = colours_of s.pattern

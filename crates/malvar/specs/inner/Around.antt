@@ -1,4 +1,5 @@
--- What a filter reads round one pixel, apart from planes and rows: this project's own.
+-- Definitions for the contracts between functions of this crate: what a filter reads round one pixel, apart from planes
+-- and rows. This is this project's own.
 use Rattle.std.specs.Prelude.{◌≡◌, ℕ, ◌+◌, ◌%◌, ◌≤◌, nat_eq, if◌then◌else◌, ℤ, pos, ◌+ℤ◌, ◌-ℤ◌, ◌*ℤ◌, List, slice_index}
 use Rattle.plane_view.specs.Reflect.{reflected}
 use Rattle.malvar.specs.Demosaic.{Weights, Table, rounded, weights_by}

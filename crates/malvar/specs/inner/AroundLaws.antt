@@ -1,4 +1,5 @@
--- Laws of the sums round a pixel, which are this project's own: the demosaiced sample by them, and what they rest on.
+-- Laws of the sums round a pixel, for the contracts between functions of this crate: the demosaiced sample by them,
+-- and what they rest on. This is this project's own.
 use Rattle.std.proofs.Common.{◌≡◌, ℕ, ◌+◌, ◌<◌, ◌≤◌, Bool, true, false, cond, eqb, List, ℤ, pos, ◌+ℤ◌, ◌-ℤ◌, ◌*ℤ◌, refl}
 use Rattle.std.proofs.Common.{sym, ◌∙◌, ap, arith}
 use Rattle.std.proofs.lemmas.Int.{ints}
@@ -109,6 +110,7 @@ pub record AreNear (n c by : ℕ) : Type 0 where
   pub far_after : IsWithin n c by (reflected n (pos (c + by)))
   pub same : IsWithin n c by c
 
+-- columns up to `by` off, reflected at the edges, are near
 pub are_near : (n c by : ℕ) → 4 ≤ n → c < n → 1 ≤ by → by ≤ 2 → AreNear n c by
 are_near n c by size inside some few =
     record {

@@ -1,4 +1,5 @@
--- A row of pixels, from rows of samples: this project's own.
+-- Definitions for the contracts between functions of this crate: a row of pixels, from rows of samples. This is this
+-- project's own.
 use Rattle.std.specs.Prelude.{◌≡◌, ℕ, ◌+◌, ◌-◌, ◌*◌, ◌<◌, ◌≤◌, min, pos, ◌-ℤ◌, List, length, slice_index, slice_set}
 use Rattle.plane_view.specs.Reflect.{reflected}
 use Rattle.plane_view.specs.Lent.{Lent, IsRowPart}
