@@ -11,13 +11,16 @@ use lists::Items;
 use plane_view::Rect;
 use std::alloc::{AllocError, Global};
 
-/// The IDs of the opcodes that are run.
+/// The ID of FixBadPixelsConstant (DNG 1.6, "Opcode List Processing"); those of the others follow.
 pub(crate) const FIX_BAD_PIXELS_CONSTANT: u32 = 4;
 
+/// The ID of FixBadPixelsList.
 pub(crate) const FIX_BAD_PIXELS_LIST: u32 = 5;
 
+/// The ID of TrimBounds.
 pub(crate) const TRIM_BOUNDS: u32 = 6;
 
+/// The ID of MapTable.
 pub(crate) const MAP_TABLE: u32 = 7;
 
 const MAX_PHASE: u32 = 3;
