@@ -12,6 +12,7 @@ use Rattle.opcode_stages.specs.contracts.crop.CropPartialEq.TheImpl.{ghosts}
 use Rattle.opcode_stages.specs.Crops.{cropped_to, cropped_shape, cropped_at}
 use Rattle.opcode_stages.specs.Equality.{rect_equality}
 
+-- the crop of a shape to a part of it is a shape
 pub crop_shapes : (q : Rect) (input : Shape) → IsShape input → IsPart q input → IsShape (cropped_shape q input)
 crop_shapes q input is part =
     record {
@@ -23,6 +24,7 @@ crop_shapes q input is part =
       planes = omega arith;
     }
 
+-- what a crop needs for a part of its plane is a part of the plane below
 pub crop_needs : (q : Rect) (input : Shape) (rect : Rect) → IsPart q input → IsPart rect (cropped_shape q input)
     → IsPart (shifted rect q.top q.left) input
 crop_needs q input rect part inner =

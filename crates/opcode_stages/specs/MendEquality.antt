@@ -64,6 +64,7 @@ pixels_equiv = record {
   congr = λ s t u h. ap (λ (x : BadPixels). same_pixels x u) ((pixels_equality s t).0 h);
 }
 
+-- being the same pixels is symmetric and transitive
 pub pixels_per : IsPartialEquivalence same_pixels
 pixels_per = partial_equiv_from_equiv pixels_equiv
 

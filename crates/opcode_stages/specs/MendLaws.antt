@@ -16,6 +16,7 @@ use Rattle.opcode_stages.specs.Mends.{IsSingle, steps_of, is_green, row_after, c
 use Rattle.opcode_stages.specs.Mends.{good_count, mean_or, mended_at, equals, is_listed}
 use Rattle.opcode_stages.specs.inner.MendRows.{IsShort}
 
+-- a part with two rows and columns round it, within the plane, is a part
 pub mend_needs : (input : Shape) (rect : Rect) → IsPart rect input
     → IsPart (grown rect 2 (whole_rect input.rows input.cols)) input
 mend_needs input rect part =
@@ -28,6 +29,7 @@ mend_needs input rect part =
 abbrev pub BadRests : ((ℕ → ℕ → ℕ → ℕ) → ℕ → ℕ → Bool) → Type 0
 BadRests bad = (f g : ℕ → ℕ → ℕ → ℕ) (r c : ℕ) → f r c 0 ≡ g r c 0 → bad f r c ≡ bad g r c
 
+-- whether a pixel equals a number rests on its sample
 pub equals_rests : (constant : ℕ) → BadRests (equals constant)
 equals_rests constant f g r c same = ap (λ (v : ℕ). v == constant) same
 
@@ -76,6 +78,7 @@ pub record Stays (rows cols r c : ℕ) (step : Step) : Type 0 where
   pub left : step.left ≤ c
   pub right : c + step.right < cols
 
+-- where `stays` is true, the step stays in the plane
 pub stays_so : (rows cols r c : ℕ) (step : Step) → stays rows cols r c step ≡ true → Stays rows cols r c step
 stays_so rows cols r c step e =
     record {
@@ -112,9 +115,11 @@ same_good bad rests rows cols f g r c rect pixel agree value none step short =
     ∙ sym (ap (λ (b : Bool). value (b && not (bad g i j)) (g i j 0)) outside ∙ none (g i j 0)))
     (cases_Bool (stays rows cols r c step))
 
+-- whether a pixel is listed rests on no sample
 pub listed_rests : (points : List (ℕ × ℕ)) (rects : List Rect) → BadRests (is_listed points rects)
 listed_rests points rects f g r c same = refl
 
+-- mended samples rest on those up to two rows and columns off, where badness rests on a pixel's sample
 pub mend_rests : (bad : (ℕ → ℕ → ℕ → ℕ) → ℕ → ℕ → Bool) → BadRests bad → (phase : ℕ) (input : Shape) (rect : Rect)
     → IsSingle input → IsPart rect input
     → RestsOn (λ at. mended_at (bad at) phase input.rows input.cols at) input.planes

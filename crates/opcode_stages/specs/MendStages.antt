@@ -2,9 +2,10 @@
 use Rattle.std.specs.Prelude.{ℕ}
 use Rattle.opcode_stages.specs.declared.fix_constant.FixConstant.{FixConstant}
 
--- the number that bad pixels hold, and the phase
+-- the sample that marks a bad pixel
 abbrev pub constant_of : FixConstant → ℕ
 constant_of s = s.constant
 
+-- the phase, 0 to 3: which pixels are green
 abbrev pub phase_of : FixConstant → ℕ
 phase_of s = s.phase

@@ -36,13 +36,15 @@ straight_steps =
     ∷ record { up = 0; down = 0; left = 0; right = 2 }
     ∷ []
 
+-- the steps to the neighbours of a pixel that is green, or isn't
 abbrev pub steps_of : Bool → List Step
 steps_of green = if green then diagonal_steps else straight_steps
 
--- the row, and the column, after a step
+-- the row after a step
 abbrev pub row_after : ℕ → Step → ℕ
 row_after r step = r + step.down - step.up
 
+-- the column after a step
 abbrev pub col_after : ℕ → Step → ℕ
 col_after c step = c + step.right - step.left
 
@@ -55,10 +57,11 @@ stays rows cols r c step =
 abbrev pub is_good : (ℕ → ℕ → Bool) → (rows cols r c : ℕ) → Step → Bool
 is_good bad rows cols r c step = stays rows cols r c step && not (bad (row_after r step) (col_after c step))
 
--- how many good neighbours there are after these steps, and the sum of their samples
+-- how many good neighbours of row r, column c these steps lead to
 abbrev pub good_count : (ℕ → ℕ → Bool) → (rows cols r c : ℕ) → List Step → ℕ
 good_count bad rows cols r c steps = count_by (is_good bad rows cols r c) steps
 
+-- the sum of the samples of the good neighbours that these steps lead to
 abbrev pub good_sum : (ℕ → ℕ → Bool) → (rows cols : ℕ) → (ℕ → ℕ → ℕ → ℕ) → ℕ → ℕ → List Step → ℕ
 good_sum bad rows cols at r c steps =
     sum_by (λ step. if is_good bad rows cols r c step then at (row_after r step) (col_after c step) 0 else 0) steps
@@ -83,9 +86,10 @@ mended bad phase P = plane_of P.rows P.cols P.planes (mended_at (bad (sample P))
 abbrev pub equals : ℕ → (ℕ → ℕ → ℕ → ℕ) → ℕ → ℕ → Bool
 equals constant at r c = at r c 0 == constant
 
--- a pixel is bad where it is one of some points, or lies in one of some rectangles
+-- whether a pixel is one of some points (row, column)
 abbrev pub is_point : List (ℕ × ℕ) → ℕ → ℕ → Bool
 is_point points r c = list_any (λ point. (point.0 == r) && (point.1 == c)) points
 
+-- whether a pixel is bad: it is one of some points, or lies in one of some rectangles
 abbrev pub is_listed : List (ℕ × ℕ) → List Rect → (ℕ → ℕ → ℕ → ℕ) → ℕ → ℕ → Bool
 is_listed points rects at r c = is_point points r c || list_any (has_pixel r c) rects

@@ -1,4 +1,5 @@
--- Points that are looked up by their places: this project's own.
+-- Definitions for the contracts between functions of this crate: points that are looked up by their places. This is
+-- this project's own.
 use Rattle.std.specs.Prelude.{ℕ, ◌==◌, Bool}
 use Rattle.std.specs.List.{list_any}
 use Rattle.opcode_stages.specs.declared.places.Places.{Places}

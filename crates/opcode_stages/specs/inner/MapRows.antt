@@ -1,4 +1,5 @@
--- A row of samples that is mapped, plane by plane: this project's own.
+-- Definitions for the contracts between functions of this crate: a row of samples that is mapped, plane by plane. This
+-- is this project's own.
 use Rattle.std.specs.Prelude.{◌≡◌, ℕ, ◌+◌, ◌-◌, ◌*◌, ◌%◌, ◌<◌, ◌≤◌, ◌==◌, ◌&&◌, Bool, nat_le, nat_lt, if◌then◌else◌}
 use Rattle.std.specs.Prelude.{List, slice_index}
 use Rattle.opcode_stages.specs.Maps.{entry_of}

@@ -1,4 +1,5 @@
--- A row of samples that is mended: this project's own.
+-- Definitions for the contracts between functions of this crate: a row of samples that is mended. This is this
+-- project's own.
 use Rattle.std.specs.Prelude.{◌≡◌, ℕ, ◌+◌, ◌-◌, ◌<◌, ◌≤◌, Bool, true, false, min, List, slice_index}
 use Rattle.plane_view.specs.declared.Rect.{Rect}
 use Rattle.plane_view.specs.declared.Shape.{Shape}

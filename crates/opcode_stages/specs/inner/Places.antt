@@ -1,4 +1,5 @@
--- The places of pixels, row by row, among rows of 2^32 pixels: this project's own.
+-- Definitions for the contracts between functions of this crate: the places of pixels, row by row, among rows of 2^32
+-- pixels. This is this project's own.
 use Rattle.std.specs.Prelude.{◌≡◌, ℕ, ◌+◌, ◌*◌, ◌^◌, ◌<◌, ◌≤◌, ◌==◌, ◌⊎◌, true, List, length, slice_index, Option, Some}
 use Rattle.std.specs.Prelude.{None}
 use Rattle.std.specs.List.{list_any}
