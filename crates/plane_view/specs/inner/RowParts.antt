@@ -1,4 +1,5 @@
--- Parts of rows that are written into lent parts of planes. This is this project's own.
+-- Definitions for the contracts between functions of this crate: parts of rows that are written into lent parts of
+-- planes. This is this project's own.
 use Rattle.std.specs.Prelude.{◌≡◌, ℕ, ◌+◌, ◌-◌, ◌*◌, ◌<◌, ◌≤◌, List, slice_index}
 use Rattle.plane_view.specs.Rectangles.{HasPixel}
 use Rattle.plane_view.specs.Lent.{Lent, sample_at}
