@@ -30,6 +30,7 @@ pub enum Scene {
 }
 
 impl Scene {
+    /// The bytes of the frame's file.
     pub fn file(self, alloc: Global) -> Result<Vec<u8>, AllocError>
         ensures short { IfOk result (λ file. length file.items ≤ 2 ^ 28) }
     {

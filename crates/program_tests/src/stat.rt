@@ -32,6 +32,7 @@ pub struct Row {
     tally: Numbers,
 }
 
+/// The row of a frame of one cell.
 pub fn one_cell() -> Row {
     Row {
         scene: Scene::OneCell,
