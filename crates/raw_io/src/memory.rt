@@ -24,6 +24,7 @@ impl Model for Calls {
 }
 
 impl Calls {
+    /// No call was made, and none fails.
     pub(crate) fn new(alloc: Global) -> Self
         ensures { result ≡ no_calls }
     {
@@ -42,6 +43,7 @@ impl Calls {
         self.failing.contains(&self.made)
     }
 
+    /// Lets the call of this number fail.
     pub(crate) fn fail_at(&mut self, call: u64) -> Result<(), AllocError>
         ensures added { OnOk result (self.new ≡ with_failing call self.old) }
         ensures refused { OnErr result (self.new ≡ self.old) }

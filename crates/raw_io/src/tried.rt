@@ -11,6 +11,7 @@ use std::io::{ErrorKind, Read, Write};
 /// How often a call that a signal interrupted is tried.
 const TRIES: u32 = 1 << 16;
 
+/// Reads some bytes, and tells how many; 0 at the end. A call that a signal interrupted is tried again.
 pub(crate) fn read_some<R: Read>(from: &mut R, into: &mut [u8]) -> Result<usize, Failed>
     ensures within { IfOk result (λ n. n ≤ length into.new) }
     ensures bytes { ReadConsumes (R.remaining from.old) (R.remaining from.new) result into.new }
@@ -25,6 +26,8 @@ pub(crate) fn read_some<R: Read>(from: &mut R, into: &mut [u8]) -> Result<usize,
     Err(Failed)
 }
 
+/// Writes some bytes, and tells how many: at least one, if there are any. A call that a signal interrupted is tried
+/// again.
 pub(crate) fn write_some<W: Write>(to: &mut W, from: &[u8]) -> Result<usize, Failed>
     ensures within { IfOk result (λ n. n ≤ length from.now) }
     ensures progress { IfOk result (λ n. 0 < length from.now → 0 < n) }
@@ -40,6 +43,7 @@ pub(crate) fn write_some<W: Write>(to: &mut W, from: &[u8]) -> Result<usize, Fai
     Err(Failed)
 }
 
+/// Flushes a writer. A call that a signal interrupted is tried again.
 pub(crate) fn flush<W: Write>(to: &mut W) -> Result<(), Failed>
     ensures { Keeps (W.contents to.old) (W.contents to.new) }
 {

@@ -1,4 +1,5 @@
--- Places in a list of files in memory. All of it is this project's own.
+-- Definitions for the contracts between functions of this crate: places in a list of files in memory. This is this
+-- project's own.
 use Rattle.std.specs.Prelude.{ℕ, suc, if◌then◌else◌, List, [], ◌∷◌}
 use Rattle.std.specs.Str.{bytes_eq}
 use Rattle.raw_io.specs.Memory.{MemoryFile}
