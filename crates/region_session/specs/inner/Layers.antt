@@ -1,4 +1,5 @@
--- The shapes of the planes of stages, as a session keeps them. This is this project's own.
+-- Definitions for the contracts between functions of this crate: the shapes of the planes of stages, as a session keeps
+-- them. This is this project's own.
 use Rattle.std.specs.Prelude.{◌≡◌, ⊤, List, [], ◌∷◌}
 use Rattle.plane_view.specs.declared.Shape.{Shape}
 use Rattle.plane_view.specs.Shapes.{IsShape}

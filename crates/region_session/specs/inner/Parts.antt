@@ -1,4 +1,5 @@
--- Parts of planes that are filled cell by cell. This is this project's own.
+-- Definitions for the contracts between functions of this crate: parts of planes that are filled cell by cell. This is
+-- this project's own.
 use Rattle.std.specs.Prelude.{◌≡◌, ℕ, ◌<◌, ◌*◌, List, get_or, length, take, true}
 use Rattle.std.specs.List.{Contains}
 use Rattle.plane_view.specs.declared.Rect.{Rect}

@@ -1,4 +1,5 @@
--- How the fields of a session hang together. This is this project's own.
+-- Definitions for the contracts between functions of this crate: how the fields of a session hang together. This is
+-- this project's own.
 use Rattle.std.specs.Prelude.{◌≡◌, ℕ, ◌+◌, ◌^◌, ◌≤◌, List, length}
 use Rattle.plane_view.specs.declared.Rect.{Rect}
 use Rattle.plane_view.specs.declared.Shape.{Shape}
