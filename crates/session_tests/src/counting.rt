@@ -18,6 +18,7 @@ pub struct Done {
 }
 
 impl Done {
+    /// No call and no sample.
     pub fn new() -> Done {
         Done {
             calls: Cell::new(0),
