@@ -1,4 +1,5 @@
--- The samples of planes of a shape. This is this project's own.
+-- Definitions for the contracts between functions of this crate: the samples of planes of a shape. This is this
+-- project's own.
 use Rattle.std.specs.Prelude.{ℕ, ◌*◌, List}
 use Rattle.plane_view.specs.declared.Shape.{Shape}
 use Rattle.plane_view.specs.Plane.{Plane}
