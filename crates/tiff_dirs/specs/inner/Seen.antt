@@ -1,4 +1,5 @@
--- How contracts see what looking at one entry answers. This is this project's own.
+-- Definitions for the contracts between functions of this crate: how contracts see what looking at one entry answers.
+-- This is this project's own.
 use Rattle.std.specs.Prelude.{Result, Ok, Err}
 use Rattle.tiff_dirs.specs.Entries.{Field}
 use Rattle.tiff_dirs.specs.Seen.{field_seen}
