@@ -6,18 +6,23 @@ use Rattle.tile_cache.specs.Pairs.{Cache, Pair}
 use Rattle.tile_cache.specs.declared.Key.{Key}
 use Rattle.tile_cache.specs.declared.TileCache.TheInside.{Inside}
 
+-- a key with its cell, as the map keeps it
 abbrev pub Entry : Type 0
 Entry = Key × Vec ℕ Global
 
+-- an entry as a pair of a key and samples
 abbrev pub pair_of : Entry → Pair
 pair_of entry = (entry.0, entry.1.items)
 
+-- the number of samples of an entry's cell
 abbrev pub entry_size : Entry → ℕ
 entry_size entry = length entry.1.items
 
+-- the cache that the fields stand for
 abbrev pub cache_view : Inside → Cache
 cache_view inside = record { pairs = map pair_of inside.cells.entries; slots = inside.slots; budget = inside.budget }
 
+-- the sum of sizes is right and within the budget
 pub record IsSound (inside : Inside) : Type 0 where
   pub total : inside.total ≡ sum_by entry_size inside.cells.entries
   pub within : inside.total ≤ inside.budget
