@@ -1,4 +1,5 @@
--- Tables and rows that are filled from left to right: this project's own.
+-- Definitions for the contracts between functions of this crate: tables and rows that are filled from left to right.
+-- This is this project's own.
 use Rattle.std.specs.Prelude.{◌≡◌, ℕ, ◌<◌, ◌≤◌, List, [], ◌∷◌, Bool, true, slice_index}
 use Rattle.tone_table.specs.Knots.{rise_to}
 
