@@ -1,6 +1,7 @@
 //! Opcodes, and why a list of them is refused.
 
-ghost use Rattle.std.specs.Prelude.{◌≡◌, ◌+◌, ◌≤◌, ◌∷◌, ◌++◌, decimal, length};
+ghost use Rattle.std.specs.Prelude.{◌≡◌, ◌+◌, ◌≤◌, ◌++◌, length};
+ghost use Rattle.text_line.specs.Fields.{field_text};
 ghost use Rattle.opcode_list.specs.Faults.{fault_text};
 
 use lists::Items;
@@ -97,7 +98,7 @@ impl OpcodeFault {
 fn say_opcode(name: &[u8], index: u32, id: u32, line: &mut Line)
     requires room { length line.old + 51 ≤ 128 }
     requires short { length name.now ≤ 9 }
-    ensures text { line.new ≡ line.old ++ (name.now ++ 32 ∷ decimal index ++ 32 ∷ decimal id) }
+    ensures text { line.new ≡ line.old ++ (name.now ++ field_text index ++ field_text id) }
     ensures within { length line.new ≤ length line.old + 51 }
 {
     line.push(name);

@@ -2,6 +2,7 @@
 #![tactic(auto)]
 
 ghost use Rattle.std.specs.Prelude.{◌≡◌, ◌+◌, ◌≤◌, [], ◌∷◌, ◌++◌, length, decimal};
+ghost use Rattle.text_line.specs.Fields.{field_text};
 
 use itoa::Buffer;
 use std::marker::Model;
@@ -62,7 +63,7 @@ impl Line {
     /// Appends a space and a number in decimal, which takes 2 to 21 bytes.
     pub fn push_field(&mut self, n: u64)
         requires { length self.old + 21 ≤ 128 }
-        ensures bytes { self.new ≡ self.old ++ 32 ∷ decimal n }
+        ensures bytes { self.new ≡ self.old ++ field_text n }
         ensures length { length self.new ≡ length self.old + 1 + length (decimal n) }
         ensures within { length self.new ≤ length self.old + 21 }
     {
