@@ -1,7 +1,8 @@
 -- The entries of a directory and their values (TIFF 6.0, section 2, "IFD Entry" and "Value/Offset").
 use Rattle.std.specs.Prelude.{ℕ, ◌+◌, ◌*◌, ◌==◌, nat_le, Bool, ◌&&◌, if◌then◌else◌, List, [], length, map, take, drop}
-use Rattle.std.specs.Prelude.{Option, None, Some, Result, Ok, Err}
+use Rattle.std.specs.Prelude.{Option, Result, Ok, Err}
 use Rattle.std.specs.List.{find, range_with_len}
+use Rattle.std.specs.Option.{option_map, option_transpose}
 use Rattle.tiff_dirs.specs.Header.{directory_fits, entry_count, order_of}
 use Rattle.tiff_dirs.specs.Kinds.{is_float, is_kind, size_of}
 use Rattle.tiff_dirs.specs.Numbers.{long_at, short_at}
@@ -74,12 +75,7 @@ field_or_fault bytes slot =
 
 -- the same for an entry that was found, or none
 abbrev pub answer_of : List ℕ → Option Slot → Result (Option Field) EntryFault
-answer_of bytes None = Ok None
-answer_of bytes (Some slot) = some_field (field_or_fault bytes slot)
-  where
-    some_field : Result Field EntryFault → Result (Option Field) EntryFault
-    some_field (Ok field) = Ok (Some field)
-    some_field (Err fault) = Err fault
+answer_of bytes found = option_transpose (option_map (field_or_fault bytes) found)
 
 -- what looking for a tag in the directory at an offset answers: its first entry with that tag
 unfoldable pub entry_of : List ℕ → ℕ → ℕ → Result (Option Field) EntryFault

@@ -1,8 +1,9 @@
 -- How contracts see the entries that `Tiff::find` gives. This is this project's own.
-use Rattle.std.specs.Prelude.{Option, None, Some, Result, Ok, Err}
+use Rattle.std.specs.Prelude.{IfOk, IfSome, Option, Result}
+use Rattle.std.specs.Option.{option_map}
+use Rattle.std.specs.Result.{result_map_both}
 use Rattle.tiff_dirs.specs.Entries.{Field}
 use Rattle.tiff_dirs.specs.declared.Entry.{Entry}
-use Rattle.tiff_dirs.specs.declared.EntryFault.{EntryFault}
 
 -- an entry, with the bytes that its slice holds
 abbrev pub field_seen : Entry → Field
@@ -13,14 +14,10 @@ field_seen entry = record {
   value = entry.value.now;
 }
 
--- an answer of `find`
-abbrev pub seen : Result (Option Entry) EntryFault → Result (Option Field) EntryFault
-seen (Ok None) = Ok None
-seen (Ok (Some entry)) = Ok (Some (field_seen entry))
-seen (Err fault) = Err fault
+-- what was found, whatever the refusal in its place is
+abbrev pub seen : {F : Type 0} → Result (Option Entry) F → Result (Option Field) F
+seen answer = result_map_both (option_map field_seen) (λ fault. fault) answer
 
--- a fact of the entry that was found
-abbrev pub IfFound : Result (Option Entry) EntryFault → (Entry → Type 0) → Type 0
-IfFound (Ok (Some entry)) P = P entry
-IfFound (Ok None) P = Unit {0}
-IfFound (Err fault) P = Unit {0}
+-- a fact of what was found, if anything was
+abbrev pub IfFound : {A F : Type 0} → Result (Option A) F → (A → Type 0) → Type 0
+IfFound answer P = IfOk answer (λ found. IfSome found P)
