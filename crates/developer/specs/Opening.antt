@@ -2,7 +2,7 @@
 use Rattle.std.specs.Prelude.{◌≡◌, ℕ, ◌^◌, ◌⊎◌, IfSome, IsOk, nat_lt, if◌then◌else◌, List, [], length, Option, None}
 use Rattle.std.specs.Prelude.{Some, Result, Ok, Err}
 use Rattle.raw_io.specs.Outside.{Rises}
-use Rattle.tag_rules.specs.Answers.{and_then}
+use Rattle.text_line.specs.Chain.{and_then}
 use Rattle.dng_tags.specs.Frame.{frame_of}
 use Rattle.dng_tags.specs.Raw.{raw, undecoded}
 use Rattle.dng_tags.specs.declared.record.Frame.{Frame}

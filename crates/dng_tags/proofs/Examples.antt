@@ -1,5 +1,5 @@
 -- The frame definition at work on a flat frame of 4 by 4 samples, 154 bytes, and on parts of it.
-use Rattle.std.proofs.Common.{◌≡◌, ℕ, ℤ, pos, negsuc, List, [], ◌∷◌, take, Ok, Err, Some, None, refl, true, false}
+use Rattle.std.proofs.Common.{◌≡◌, ℕ, pos, negsuc, List, [], ◌∷◌, take, Ok, Err, Some, None, refl, true, false}
 use Rattle.tiff_dirs.specs.Entries.{entries, entry_of, field_of, field_or_fault, slot_at, value_fits, value_place}
 use Rattle.tiff_dirs.specs.Entries.{value_size}
 use Rattle.tiff_dirs.specs.Header.{directory_fits, entry_count, first_directory, has_header, is_big, is_little, open_of}
@@ -12,7 +12,7 @@ use Rattle.dng_tags.specs.Area.{active_of, crop_of, extent_of, large_enough}
 use Rattle.dng_tags.specs.Black.{greatest_black, levels_of, levels_under, repeat_of, span_of, spanning, table_of}
 use Rattle.dng_tags.specs.Black.{white_of}
 use Rattle.dng_tags.specs.Colours.{analog_of, calibration_of, colour_of, gain_of, gains_in, gains_of, has_gain}
-use Rattle.dng_tags.specs.Colours.{is_positive, matrix_of}
+use Rattle.dng_tags.specs.Colours.{is_positive, matrix_of, ones}
 use Rattle.dng_tags.specs.Form.{depth_of, form_of, format_of, lossless_of, photometric_of, samples_per_pixel_of}
 use Rattle.dng_tags.specs.Form.{shape_of, side_of}
 use Rattle.tag_rules.specs.Values.{field_at, fractions_at, fractions_in, fractions_of, number_of, number_or, numbers_at}
@@ -46,9 +46,6 @@ flat =
     ∷ 0 ∷ 0 ∷ 0 ∷ 0
     ∷ 0x34 ∷ 0x12 ∷ 0x34 ∷ 0x12 ∷ 0x34 ∷ 0x12 ∷ 0x34 ∷ 0x12 ∷ 0x34 ∷ 0x12 ∷ 0x34 ∷ 0x12 ∷ 0x34 ∷ 0x12 ∷ 0x34 ∷ 0x12
     ∷ 0x34 ∷ 0x12 ∷ 0x34 ∷ 0x12 ∷ 0x34 ∷ 0x12 ∷ 0x34 ∷ 0x12 ∷ 0x34 ∷ 0x12 ∷ 0x34 ∷ 0x12 ∷ 0x34 ∷ 0x12 ∷ 0x34 ∷ 0x12 ∷ []
-
-abbrev ones : List ℤ
-ones = pos 65536 ∷ pos 65536 ∷ pos 65536 ∷ []
 
 -- every default of a frame that has no more than it must
 abbrev flat_record : Frame

@@ -8,7 +8,7 @@ use Rattle.std.proofs.lemmas.List.{drop_all}
 use Rattle.tiff_dirs.specs.Header.{directory_of, open_of}
 use Rattle.tiff_dirs.specs.declared.TiffFault.{TiffFault}
 use Rattle.tiff_dirs.proofs.OpenLemmas.{open_of-ok}
-use Rattle.tag_rules.specs.Answers.{and_then}
+use Rattle.text_line.specs.Chain.{and_then}
 use Rattle.dng_tags.specs.Origin.{first_raw, refusing, subfile_type_at, tiff_of}
 use Rattle.tag_rules.specs.declared.faults.FrameFault.TheVariants.{NoRaw}
 

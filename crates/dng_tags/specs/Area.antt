@@ -7,7 +7,7 @@ use Rattle.std.specs.Option.{option_map_or}
 use Rattle.plane_view.specs.Rectangles.{whole_rect}
 use Rattle.plane_view.specs.declared.Rect.{Rect}
 use Rattle.plane_view.specs.declared.Shape.{Shape}
-use Rattle.tag_rules.specs.Answers.{and_then}
+use Rattle.text_line.specs.Chain.{and_then}
 use Rattle.tag_rules.specs.Values.{Dirs, fractions_of, numbers_of}
 use Rattle.dng_tags.specs.declared.area.Extent.{Extent}
 use Rattle.tag_rules.specs.declared.faults.FrameFault.{FrameFault}

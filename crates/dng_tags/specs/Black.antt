@@ -9,7 +9,7 @@ use Rattle.std.specs.List.{range_with_len}
 use Rattle.std.specs.Option.{option_map_or}
 use Rattle.plane_view.specs.Rectangles.{height, width}
 use Rattle.plane_view.specs.declared.Rect.{Rect}
-use Rattle.tag_rules.specs.Answers.{and_then}
+use Rattle.text_line.specs.Chain.{and_then}
 use Rattle.tag_rules.specs.Quantities.{level_scale, on_scale}
 use Rattle.tag_rules.specs.Values.{Dirs, fractions_of, number_of, numbers_of}
 use Rattle.dng_tags.specs.declared.black.Repeat.{Repeat}

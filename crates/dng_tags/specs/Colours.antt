@@ -4,7 +4,7 @@
 use Rattle.std.specs.Prelude.{ℕ, ◌+◌, ◌*◌, ◌/◌, ◌==◌, nat_le, ◌&&◌, if◌then◌else◌, ℤ, pos, int_lt, Bool, List, [], ◌∷◌}
 use Rattle.std.specs.Prelude.{map, slice_index_or, Option, None, Some, Result, Ok, Err, unsigned_abs}
 use Rattle.std.specs.List.{list_all}
-use Rattle.tag_rules.specs.Answers.{and_then}
+use Rattle.text_line.specs.Chain.{and_then}
 use Rattle.tag_rules.specs.Quantities.{colour_scale, on_scale}
 use Rattle.tag_rules.specs.Tags.{rule_of}
 use Rattle.tag_rules.specs.Values.{Dirs, fractions_of}

@@ -3,7 +3,7 @@
 -- for photometric interpretation 32803 and compression 7). The limits of the image's size are this project's own.
 use Rattle.std.specs.Prelude.{ℕ, ◌*◌, ◌^◌, ◌==◌, nat_le, ◌&&◌, ◌||◌, if◌then◌else◌, Bool, Result, Ok, Err}
 use Rattle.plane_view.specs.declared.Shape.{Shape}
-use Rattle.tag_rules.specs.Answers.{and_then}
+use Rattle.text_line.specs.Chain.{and_then}
 use Rattle.tag_rules.specs.Values.{Dirs, number_or, required_number_of}
 use Rattle.tag_rules.specs.declared.faults.FrameFault.{FrameFault}
 use Rattle.tag_rules.specs.declared.faults.FrameFault.TheVariants.{Compression as CompressionFault, Depth, Format}

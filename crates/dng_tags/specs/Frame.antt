@@ -2,7 +2,7 @@
 -- the groups is this project's own.
 use Rattle.std.specs.Prelude.{ℕ, List, Result, Ok}
 use Rattle.tiff_dirs.specs.Header.{order_of}
-use Rattle.tag_rules.specs.Answers.{and_then}
+use Rattle.text_line.specs.Chain.{and_then}
 use Rattle.tag_rules.specs.Values.{Dirs}
 use Rattle.tag_rules.specs.declared.faults.FrameFault.{FrameFault}
 use Rattle.dng_tags.specs.Area.{active_of, crop_of, large_enough}

@@ -6,7 +6,7 @@ use Rattle.std.specs.List.{position, range_with_len}
 use Rattle.plane_view.specs.Rectangles.{height}
 use Rattle.plane_view.specs.declared.Rect.{Rect}
 use Rattle.plane_view.specs.declared.Shape.{Shape}
-use Rattle.tag_rules.specs.Answers.{and_then}
+use Rattle.text_line.specs.Chain.{and_then}
 use Rattle.tag_rules.specs.Values.{Dirs, number_of, required_number_of, required_numbers_of}
 use Rattle.tag_rules.specs.declared.faults.FrameFault.{FrameFault}
 use Rattle.tag_rules.specs.declared.faults.FrameFault.TheVariants.{Layout as LayoutFault, Outside}

@@ -6,7 +6,7 @@ use Rattle.plane_view.specs.declared.Rect.{Rect}
 use Rattle.plane_view.specs.declared.Shape.{Shape}
 use Rattle.opcode_list.specs.Trims.{left_after, trimmed}
 use Rattle.opcode_list.specs.declared.opcode.Opcode.{Opcode}
-use Rattle.tag_rules.specs.Answers.{and_then}
+use Rattle.text_line.specs.Chain.{and_then}
 use Rattle.tag_rules.specs.Opcodes.{opcodes_under}
 use Rattle.tag_rules.specs.Values.{Dirs}
 use Rattle.tag_rules.specs.declared.faults.FrameFault.{FrameFault}

@@ -2,13 +2,14 @@
 -- section 2; DNG 1.6, chapter 4, "DNGVersion", "DNGBackwardVersion", and chapter 3, "NewSubFileType"; Adobe's TIFF
 -- Technical Note 1, "SubIFDs"). That the raw image is the first of directory 0 and its SubIFDs whose NewSubFileType is
 -- 0 is this project's own.
-use Rattle.std.specs.Prelude.{ℕ, ◌==◌, nat_lt, ◌&&◌, ◌||◌, if◌then◌else◌, Bool, List, [], ◌∷◌, slice_index, Result, Ok}
-use Rattle.std.specs.Prelude.{Err}
+use Rattle.std.specs.Prelude.{ℕ, ◌==◌, if◌then◌else◌, List, [], ◌∷◌, slice_index, Result, Ok, Err, ok_or}
 use Rattle.std.specs.Option.{option_map_or}
+use Rattle.std.specs.Result.{result_map_both}
 use Rattle.tiff_dirs.specs.Header.{directory_of, first_directory, open_of}
 use Rattle.tiff_dirs.specs.declared.TiffFault.{TiffFault}
 use Rattle.tiff_dirs.specs.declared.TiffFault.TheVariants.{BadDirectory as BadDirectoryOfFile, NotTiff as NotTiffOfFile}
-use Rattle.tag_rules.specs.Answers.{and_then, or_refuse}
+use Rattle.text_line.specs.Chain.{and_then}
+use Rattle.opcode_list.specs.Lists.{is_newer}
 use Rattle.tag_rules.specs.Values.{Dirs, numbers_at}
 use Rattle.tag_rules.specs.declared.faults.FrameFault.{FrameFault}
 use Rattle.tag_rules.specs.declared.faults.FrameFault.TheVariants.{BadDirectory, Newer, NoRaw, NotDng, NotTiff}
@@ -22,8 +23,7 @@ as_refusal (BadDirectoryOfFile at) = BadDirectory at
 
 -- an answer about a file or a directory, with the frame's fault in place of its own
 abbrev pub refusing : {A : Type 0} → Result A TiffFault → Result A FrameFault
-refusing (Ok value) = Ok value
-refusing (Err fault) = Err (as_refusal fault)
+refusing answer = result_map_both (λ value. value) as_refusal answer
 
 -- the file's bytes: they have a header, and directory 0 lies among them
 unfoldable pub tiff_of : List ℕ → Result (List ℕ) FrameFault
@@ -33,22 +33,18 @@ tiff_of bytes = refusing (open_of bytes)
 abbrev pub version_in : List ℕ → Version
 version_in xs = record { major = slice_index xs 0; minor = slice_index xs 1 }
 
--- whether a version is later than 1.6
-abbrev pub is_newer : Version → Bool
-is_newer version = nat_lt 1 version.major || (version.major == 1 && nat_lt 6 version.minor)
-
 -- the file's version
 unfoldable pub version_of : List ℕ → Result Version FrameFault
 version_of bytes =
     and_then (numbers_at bytes (first_directory bytes) DngVersion) (λ found.
-    and_then (or_refuse found NotDng) (λ xs. Ok (version_in xs)))
+    and_then (ok_or found NotDng) (λ xs. Ok (version_in xs)))
 
 -- the version that a reader needs: the file's own where the tag is absent
 unfoldable pub needed_version_of : List ℕ → Version → Result Version FrameFault
 needed_version_of bytes version =
     and_then (numbers_at bytes (first_directory bytes) DngBackwardVersion) (λ found.
     let needed = option_map_or version_in found version in
-    if is_newer needed then Err Newer else Ok needed)
+    if is_newer needed.major needed.minor then Err Newer else Ok needed)
 
 -- NewSubFileType of the directory at an offset, 0 where there is none
 unfoldable pub subfile_type_at : List ℕ → ℕ → Result ℕ FrameFault
@@ -69,7 +65,7 @@ raw_directory_of bytes =
     and_then (subfile_type_at bytes (first_directory bytes)) (λ kind.
     if kind == 0 then Ok (first_directory bytes)
     else and_then (numbers_at bytes (first_directory bytes) SubIfds) (λ found.
-    and_then (or_refuse found NoRaw) (λ offsets. first_raw bytes offsets)))
+    and_then (ok_or found NoRaw) (λ offsets. first_raw bytes offsets)))
 
 -- the group of the origin: the file with its raw image's directory
 unfoldable pub origin_of : List ℕ → Result Dirs FrameFault

@@ -1,9 +1,10 @@
 -- The group of the pattern: the colours of the filter array (TIFF/EP, "CFARepeatPatternDim", "CFAPattern"; DNG 1.6,
 -- chapter 4, "CFAPlaneColor", "CFALayout"). The four patterns that are accepted are this project's own.
-use Rattle.std.specs.Prelude.{ℕ, ◌==◌, ◌&&◌, if◌then◌else◌, Bool, true, List, [], ◌∷◌, slice_index, Result, Ok, Err}
+use Rattle.std.specs.Prelude.{ℕ, ◌==◌, ◌&&◌, if◌then◌else◌, Bool, true, List, [], ◌∷◌, slice_index, Result, Ok}
+use Rattle.std.specs.Prelude.{Err, ok_or}
 use Rattle.std.specs.List.{find}
 use Rattle.std.specs.Option.{option_map_or}
-use Rattle.tag_rules.specs.Answers.{and_then, or_refuse}
+use Rattle.text_line.specs.Chain.{and_then}
 use Rattle.tag_rules.specs.Values.{Dirs, number_or, numbers_of, required_numbers_of}
 use Rattle.tag_rules.specs.declared.faults.FrameFault.{FrameFault}
 use Rattle.tag_rules.specs.declared.faults.FrameFault.TheVariants.{Cfa}
@@ -36,7 +37,7 @@ pattern_size_of dirs =
 unfoldable pub colours_of : Dirs → Result (List ℕ) FrameFault
 colours_of dirs =
     and_then (required_numbers_of dirs CfaPattern) (λ xs.
-    or_refuse (find (λ pattern. is_same_pattern pattern xs) patterns) Cfa)
+    ok_or (find (λ pattern. is_same_pattern pattern xs) patterns) Cfa)
 
 -- planes red, green, blue
 abbrev pub are_red_green_blue : List ℕ → Bool

@@ -1,7 +1,8 @@
 //! The first group: the file, its DNG version, and the directory of its raw image.
 
 ghost use Rattle.std.specs.Prelude.{◌≡◌, ◌<◌, length, IfOk};
-ghost use Rattle.dng_tags.specs.Origin.{first_raw, is_newer, needed_version_of, origin_of, raw_directory_of};
+ghost use Rattle.opcode_list.specs.Lists.{is_newer};
+ghost use Rattle.dng_tags.specs.Origin.{first_raw, needed_version_of, origin_of, raw_directory_of};
 ghost use Rattle.dng_tags.specs.Origin.{refusing, subfile_type_at, tiff_of, version_in, version_of};
 
 use tag_rules::{Directories, FrameFault, Tag, Whole, whole_in};
@@ -28,7 +29,7 @@ impl Version {
 
     /// Whether it is later than 1.6.
     fn is_newer(self) -> bool
-        ensures { result ≡ is_newer self }
+        ensures { result ≡ is_newer self.major self.minor }
     {
         self.major > 1 || (self.major == 1 && self.minor > 6)
     }

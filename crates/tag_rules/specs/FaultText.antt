@@ -1,6 +1,7 @@
 -- What a refusal says: the name of the fault, and its fields in decimal, each after one space. This is this project's
 -- own.
-use Rattle.std.specs.Prelude.{ℕ, List, ◌∷◌, ◌++◌, codes, decimal}
+use Rattle.std.specs.Prelude.{ℕ, List, ◌∷◌, ◌++◌, codes}
+use Rattle.text_line.specs.Fields.{field_text}
 use Rattle.ljpeg_predict.specs.Faults.{jpeg_fault_text}
 use Rattle.opcode_list.specs.Faults.{fault_text as opcode_fault_text}
 use Rattle.tag_rules.specs.declared.faults.FrameFault.{FrameFault}
@@ -12,17 +13,13 @@ use Rattle.tag_rules.specs.declared.faults.FrameFault.TheVariants.{Memory}
 use Rattle.tag_rules.specs.declared.faults.SegmentFault.{SegmentFault}
 use Rattle.tag_rules.specs.declared.faults.SegmentFault.TheVariants.{Jpeg, Short}
 
--- a field: a space, and a number in decimal
-abbrev pub field : ℕ → List ℕ
-field n = 32 ∷ decimal n
-
 -- a name with a field
 abbrev pub named : List ℕ → ℕ → List ℕ
-named name n = name ++ field n
+named name n = name ++ field_text n
 
 -- why a segment can't be decoded
 abbrev pub segment_fault_text : SegmentFault → List ℕ
-segment_fault_text (Short short) = codes "Short" ++ field short.needed ++ field short.had
+segment_fault_text (Short short) = codes "Short" ++ field_text short.needed ++ field_text short.had
 segment_fault_text (Jpeg fault) = codes "Jpeg" ++ 32 ∷ jpeg_fault_text fault
 
 -- why a frame is refused
@@ -50,5 +47,5 @@ fault_text (Segment segment why) = named (codes "Segment") segment ++ 32 ∷ seg
 fault_text TooLong = codes "TooLong"
 fault_text (Format v) = named (codes "Format") v
 fault_text (Opcode list fault) = named (codes "Opcode") list ++ 32 ∷ opcode_fault_text fault
-fault_text (Trim list index) = named (codes "Trim") list ++ field index
+fault_text (Trim list index) = named (codes "Trim") list ++ field_text index
 fault_text Memory = codes "Memory"

@@ -4,4 +4,3 @@ pub mod Opcodes
 pub mod Quantities
 pub mod Tags
 pub mod Values
-pub mod inner

@@ -1,15 +1,15 @@
 -- What reading a tag by its rule answers. The refusals are this project's own.
 use Rattle.std.specs.Prelude.{ℕ, nat_le, not, ◌&&◌, if◌then◌else◌, ℤ, List, map, slice_index, Option, None, Some}
-use Rattle.std.specs.Prelude.{Result, Ok, Err, unwrap_or}
+use Rattle.std.specs.Prelude.{Result, Ok, Err, ok_or, unwrap_or}
 use Rattle.std.specs.List.{range_with_len}
 use Rattle.std.specs.Option.{option_map}
+use Rattle.text_line.specs.Chain.{and_then}
 use Rattle.tiff_dirs.specs.Entries.{Field, entry_of}
 use Rattle.tiff_dirs.specs.Header.{first_directory, order_of}
 use Rattle.tiff_dirs.specs.Values.{number_in, rational_in}
 use Rattle.tiff_dirs.specs.declared.EntryFault.{EntryFault}
 use Rattle.tiff_dirs.specs.declared.EntryFault.TheVariants.{BadEntry as BadEntryOfFile, FloatTag as FloatTagOfFile}
 use Rattle.tiff_dirs.specs.declared.Order.{Order}
-use Rattle.tag_rules.specs.Answers.{and_then, or_refuse}
 use Rattle.tag_rules.specs.Tags.{allows, rule_of}
 use Rattle.tag_rules.specs.declared.faults.FrameFault.{FrameFault}
 use Rattle.tag_rules.specs.declared.faults.FrameFault.TheVariants.{BadEntry, FloatTag}
@@ -70,12 +70,12 @@ number_of dirs tag = and_then (numbers_of dirs tag) (λ found. Ok (option_map (�
 -- the number of a tag that has to be there
 unfoldable pub required_number_of : Dirs → Tag → Result ℕ FrameFault
 required_number_of dirs tag =
-    and_then (number_of dirs tag) (λ found. or_refuse found (BadEntry (rule_of tag).number))
+    and_then (number_of dirs tag) (λ found. ok_or found (BadEntry (rule_of tag).number))
 
 -- the numbers of a tag that has to be there
 unfoldable pub required_numbers_of : Dirs → Tag → Result (List ℕ) FrameFault
 required_numbers_of dirs tag =
-    and_then (numbers_of dirs tag) (λ found. or_refuse found (BadEntry (rule_of tag).number))
+    and_then (numbers_of dirs tag) (λ found. ok_or found (BadEntry (rule_of tag).number))
 
 -- the number of a tag, or its default
 unfoldable pub number_or : Dirs → Tag → ℕ → Result ℕ FrameFault
@@ -89,9 +89,3 @@ fractions_at bytes at tag =
 -- the fractions under a tag, in the tag's own directory
 unfoldable pub fractions_of : Dirs → Tag → Result (Option (List (ℤ × ℤ))) FrameFault
 fractions_of dirs tag = fractions_at dirs.bytes (home_in dirs (rule_of tag).home) tag
-
--- a fact of what was found
-abbrev pub IfFound : {A : Type 0} → Result (Option A) FrameFault → (A → Type 0) → Type 0
-IfFound (Ok (Some found)) P = P found
-IfFound (Ok None) P = Unit {0}
-IfFound (Err fault) P = Unit {0}

@@ -5,14 +5,14 @@ ghost use Rattle.std.specs.Prelude.{IfOk, IsTrue, Ok};
 ghost use Rattle.tiff_dirs.specs.Header.{order_of};
 ghost use Rattle.tiff_dirs.specs.Kinds.{size_of};
 ghost use Rattle.tiff_dirs.specs.Numbers.{IsOf32Bits};
-ghost use Rattle.tiff_dirs.specs.Seen.{field_seen};
-ghost use Rattle.tag_rules.specs.Answers.{Answers, and_then};
+ghost use Rattle.tiff_dirs.specs.Seen.{IfFound, field_seen, seen};
+ghost use Rattle.text_line.specs.Chain.{and_then};
+ghost use Rattle.tag_rules.specs.Answers.{Answers};
 ghost use Rattle.tag_rules.specs.declared.tags.Home.TheVariants.{Raw};
 ghost use Rattle.tag_rules.specs.declared.tags.Kinds.TheVariants.{Short};
 ghost use Rattle.tag_rules.specs.Tags.{allows, are_fractions, are_whole, rule_of};
-ghost use Rattle.tag_rules.specs.Values.{IfFound, field_at, fractions_at, fractions_of, number_of, number_or};
+ghost use Rattle.tag_rules.specs.Values.{field_at, fractions_at, fractions_of, number_of, number_or};
 ghost use Rattle.tag_rules.specs.Values.{numbers_at, numbers_in, numbers_of, required_number_of, required_numbers_of};
-ghost use Rattle.tag_rules.specs.inner.Seen.{entry_seen};
 
 use crate::faults::FrameFault;
 use crate::tags::{Home, Tag};
@@ -108,7 +108,7 @@ pub(crate) fn field_in<'a>(
     dir: &Dir<'_>,
     tag: Tag,
 ) -> Result<Option<Entry<'a>>, FrameFault>
-    ensures answer { entry_seen result ≡ field_at tiff.now dir.now tag }
+    ensures answer { seen result ≡ field_at tiff.now dir.now tag }
     ensures whole { IfFound result (λ e. length e.value.now ≡ e.count * size_of e.kind) }
     ensures kind { IfFound result (λ e. IsTrue (allows (rule_of tag).kinds e.kind)) }
     ensures counts { IfFound result (λ e. ((rule_of tag).fewest ≤ e.count) × (e.count ≤ (rule_of tag).most)) }

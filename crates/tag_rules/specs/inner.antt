@@ -1,2 +1,0 @@
--- Definitions for the contracts between functions of this crate.
-pub mod Seen
