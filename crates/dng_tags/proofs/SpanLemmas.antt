@@ -8,7 +8,7 @@ use Rattle.std.proofs.lemmas.Bool.{cases_lt}
 use Rattle.std.proofs.lemmas.Int.{ints, clamps}
 use Rattle.std.proofs.lemmas.List.FromFn.{length-map-range_with_len, get_or-map-range_with_len}
 use Rattle.std.proofs.Math.Nat.{mod-eq_of_lt, mod-le}
-use Rattle.std.proofs.lemmas.Nat.{div-add-mod', div_below, div-mul-add, mod-mul-add, mod_below, mul-add-lt}
+use Rattle.std.proofs.lemmas.Nat.{div_below, div-mul-add, mod-mul-add, mod_below, mul-add-lt}
 use Rattle.dng_tags.specs.Black.{across_at, black_at, greatest, greatest_black}
 use Rattle.dng_tags.specs.inner.Span.{FallsBefore, FallsOn, IsGreatest, IsGreatestBlack, IsReached, IsReachedBlack}
 use Rattle.dng_tags.specs.declared.record.Levels.{Levels}
