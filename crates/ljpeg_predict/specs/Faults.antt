@@ -1,6 +1,6 @@
 -- What a refusal says: its name, and its fields in decimal, each after a space (this project's own).
-use Rattle.std.specs.Prelude.{ℕ, List, ◌∷◌, ◌++◌, codes}
-use Rattle.std.specs.Fmt.{decimal}
+use Rattle.std.specs.Prelude.{ℕ, List, ◌++◌, codes}
+use Rattle.text_line.specs.Fields.{field_text}
 use Rattle.ljpeg_predict.specs.declared.JpegFault.{JpegFault}
 use Rattle.ljpeg_predict.specs.declared.JpegFault.TheVariants as fault
 
@@ -21,10 +21,6 @@ jpeg_fault_name fault.NoTable = codes "NoTable"
 jpeg_fault_name (fault.Size has) = codes "Size"
 jpeg_fault_name fault.Ended = codes "Ended"
 jpeg_fault_name fault.NoCode = codes "NoCode"
-
--- a number behind a space
-abbrev pub field_text : ℕ → List ℕ
-field_text number = 32 ∷ decimal number
 
 -- the name of a fault, and its number if it has one
 abbrev pub jpeg_fault_text : JpegFault → List ℕ
