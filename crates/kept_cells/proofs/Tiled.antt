@@ -1,24 +1,26 @@
 -- What a look-up and a put do to the cells that are held and to the list of keys.
 use Rattle.std.proofs.Common.{◌≡◌, ◌∙◌, ◌==◌, ◌&&◌, ℕ, zero, suc, Bool, true, false, cond, List, [], ◌∷◌, length, take}
-use Rattle.std.proofs.Common.{map, Option, Some, None, option_map, is_some, refl, sym, ap, subst, arith, nat_le, get_or}
+use Rattle.std.proofs.Common.{map, Contains, Option, Some, None, is_some, refl, sym, ap, subst, arith, nat_le, get_or}
 use Rattle.std.proofs.Common.{◌≤◌, ◌<◌}
 use Rattle.std.specs.Option.{option_map_or}
 use Rattle.std.specs.Map.{lookup, lookup_entry, remove_entry}
-use Rattle.std.proofs.lemmas.Bool.{and_parts, eqb-true}
 use Rattle.std.specs.Cmp.{nat_eq_equiv}
-use Rattle.lru.specs.LruCache.{promoted}
-use Rattle.lru.proofs.CallerLemmas.{Contains-lookup_entry}
+use Rattle.std.proofs.lemmas.Bool.{and_parts, eqb-true}
+use Rattle.std.proofs.lemmas.List.Elements.{All-cons, All-contains, All-contains_itself, All-head, All-tail, All-take}
+use Rattle.std_collections.proofs.Entries.{lookup-remove_entry_apart}
+use Rattle.lru.specs.LruCache.{lru_cache, promoted}
+use Rattle.lru.proofs.CallerLemmas.{Contains-lookup_entry, Contains-promoted}
+use Rattle.lru.proofs.Pairs.{promoted_absent}
 use Rattle.tile_cache.specs.Pairs.{Cache, Pair}
 use Rattle.tile_cache.specs.Cache.{same_key, size, after_get, after_put, after_drops}
 use Rattle.tile_cache.specs.Kept.{has_room, kept}
 use Rattle.tile_cache.specs.declared.Key.{Key}
-use Rattle.tile_cache.proofs.Entries.{lookup-promoted}
+use Rattle.tile_cache.proofs.Values.{lookup-promoted, promoted-map_values}
 use Rattle.tile_cache.proofs.Kept.{dropped_until-take}
 use Rattle.kept_cells.specs.Held.{SameHeld, Takes}
 use Rattle.kept_cells.specs.Kept.{Kept, key_at, brought}
 use Rattle.kept_cells.specs.Tiling.{kept_in, held_in}
 use Rattle.kept_cells.specs.inner.Keys.{KeysUpTo}
-use Rattle.std.proofs.lemmas.List.Elements.{All-cons, All-head, All-tail, All-take}
 
 -- a key with the size of its cell
 abbrev item_of : Pair → Key × ℕ
@@ -37,67 +39,10 @@ same_is k l h =
     ∙ ap (λ n. record { stage = l.stage; cell = n; stamp = k.stamp }) c
     ∙ ap (λ n. record { stage = l.stage; cell = l.cell; stamp = n }) t
 
-eq_self : (n : ℕ) → (n == n) ≡ true
-eq_self n = nat_eq_equiv.refl n
-
 pub same_self : (k : Key) → same_key k k ≡ true
-same_self k = rw (eq_self k.stage, eq_self k.cell, eq_self k.stamp) refl
+same_self k = rw (nat_eq_equiv.refl k.stage, nat_eq_equiv.refl k.cell, nat_eq_equiv.refl k.stamp) refl
 
 -- ---- bringing to the front
-
-lookup_entry-items : (test : Key → Bool) (ps : List Pair) → lookup_entry test (map item_of ps)
-    ≡ option_map item_of (lookup_entry test ps)
-lookup_entry-items test [] = refl
-lookup_entry-items test (e ∷ es) = go (test e.0) (lookup_entry-items test es)
-  where
-    go : (b : Bool) → lookup_entry test (map item_of es) ≡ option_map item_of (lookup_entry test es)
-        → cond b (Some (item_of e)) (lookup_entry test (map item_of es))
-        ≡ option_map item_of (cond b (Some e) (lookup_entry test es))
-    go true h = refl
-    go false h = h
-
-remove_entry-items : (test : Key → Bool) (ps : List Pair) → remove_entry test (map item_of ps)
-    ≡ map item_of (remove_entry test ps)
-remove_entry-items test [] = refl
-remove_entry-items test (e ∷ es) = go (test e.0) (remove_entry-items test es)
-  where
-    go : (b : Bool) → remove_entry test (map item_of es) ≡ map item_of (remove_entry test es)
-        → cond b (map item_of es) (item_of e ∷ remove_entry test (map item_of es))
-        ≡ map item_of (cond b es (e ∷ remove_entry test es))
-    go true h = refl
-    go false h = ap (λ ps. item_of e ∷ ps) h
-
-pub promoted-items : (test : Key → Bool) (ps : List Pair) → map item_of (promoted test ps)
-    ≡ promoted test (map item_of ps)
-promoted-items test es = go (lookup_entry test es)
-    ∙ ap (λ (o : Option (Key × ℕ)). option_map_or (λ p. p ∷ remove_entry test (map item_of es)) o (map item_of es))
-    (sym (lookup_entry-items test es))
-  where
-    go : (o : Option Pair) → map item_of (option_map_or (λ e. e ∷ remove_entry test es) o es)
-        ≡ option_map_or (λ p. p ∷ remove_entry test (map item_of es)) (option_map item_of o) (map item_of es)
-    go None = refl
-    go (Some e) = ap (λ ps. item_of e ∷ ps) (sym (remove_entry-items test es))
-
--- a key that isn't there changes nothing
-none_entry : (test : Key → Bool) (ps : List Pair) → is_some (lookup test ps) ≡ false → lookup_entry test ps ≡ None
-none_entry test [] h = refl
-none_entry test (e ∷ es) h = (elim (test e.0) as (λ b. test e.0 ≡ b → lookup_entry test (e ∷ es) ≡ None) [
-  | true ↦ λ t. let bad = rw t at h in cc
-  | false ↦ λ t. rw t (none_entry test es (rw t at h))
-]) refl
-
-pub promoted_none : (test : Key → Bool) (ps : List Pair) → is_some (lookup test ps) ≡ false → promoted test ps ≡ ps
-promoted_none test ps h = ap (λ (o : Option Pair). option_map_or (λ e. e ∷ remove_entry test ps) o ps)
-    (none_entry test ps h)
-
-lookup_removed : (test other : Key → Bool) → ((k : Key) → test k ≡ true → other k ≡ false) → (ps : List Pair)
-    → lookup other (remove_entry test ps) ≡ lookup other ps
-lookup_removed test other apart [] = refl
-lookup_removed test other apart (e ∷ es) =
-    (elim (test e.0) as (λ b. test e.0 ≡ b → lookup other (remove_entry test (e ∷ es)) ≡ lookup other (e ∷ es)) [
-      | true ↦ λ t. rw (t, apart e.0 t) refl
-      | false ↦ λ t. let on = lookup_removed test other apart es in rw (t, on) refl
-    ]) refl
 
 -- each key finds the same once a pair is in front
 pub lookup_other : (a b : Key) (ps : List Pair) → lookup (same_key b) (promoted (same_key a) ps)
@@ -116,7 +61,9 @@ lookup_other a b ps = (elim (same_key b a) as (λ x. same_key b a ≡ x → look
     go t (Some e) h =
         let is : a ≡ e.0 = same_is a e.0 (Contains-lookup_entry (same_key a) ps e h).1 in
         let away : same_key b e.0 ≡ false = ap (same_key b) (sym is) ∙ t in
-        rw away (lookup_removed (same_key a) (same_key b) (λ k s. ap (same_key b) (sym (same_is a k s)) ∙ t) ps)
+        let apart : (k : Key) → same_key a k ≡ true → same_key b k ≡ false =
+        λ k s. ap (same_key b) (sym (same_is a k s)) ∙ t in
+        rw away (lookup-remove_entry_apart (same_key a) (same_key b) apart ps)
 
 -- ---- taking the last ones off
 
@@ -156,14 +103,15 @@ pub found_kept : (a b : Cache) (s : List ℕ) (plane cell : ℕ) → b ≡ after
     → kept_in b s ≡ brought (kept_in a s) plane cell
 found_kept a b s plane cell is =
     ap (λ (c : Cache). kept_in c s) is
-    ∙ ap (λ items. made items s a.slots a.budget) (promoted-items (same_key (key_at (kept_in a s) plane cell)) a.pairs)
+    ∙ ap (λ items. made items s a.slots a.budget)
+    (promoted-map_values (λ (xs : List ℕ). length xs) (same_key (key_at (kept_in a s) plane cell)) a.pairs)
 
 pub unfound_kept : (a b : Cache) (s : List ℕ) (plane cell : ℕ) → b ≡ after_get (key_at (kept_in a s) plane cell) a
     → (held_in a s).holds plane cell ≡ false → kept_in b s ≡ kept_in a s
 unfound_kept a b s plane cell is absent =
     ap (λ (c : Cache). kept_in c s) is
     ∙ ap (λ (ps : List Pair). made (map item_of ps) s a.slots a.budget)
-    (promoted_none (same_key (key_at (kept_in a s) plane cell)) a.pairs absent)
+    (promoted_absent same_key (lru_cache a.pairs a.slots) (key_at (kept_in a s) plane cell) absent).1
 
 -- ---- what a put leaves
 
@@ -237,32 +185,12 @@ stored_takes a b s plane cell xs absent is =
 
 -- ---- stamps
 
-found_upto : (n : ℕ) (test : Key → Bool) (ps : List Pair) (e : Pair) → KeysUpTo n ps → lookup_entry test ps ≡ Some e
-    → e.0.stamp ≤ n
-found_upto n test [] e upto h = cc
-found_upto n test (x ∷ es) e upto h = (elim (test x.0) as (λ b. test x.0 ≡ b → e.0.stamp ≤ n) [
-  | true ↦ λ t. let h' = rw t at h in let same : x ≡ e = cc in
-      subst (λ (y : Pair). y.0.stamp ≤ n) same (All-head (λ (y : Pair). y.0.stamp ≤ n) x es upto)
-  | false ↦ λ t. found_upto n test es e (All-tail (λ (y : Pair). y.0.stamp ≤ n) x es upto) (rw t at h)
-]) refl
-
-removed_upto : (n : ℕ) (test : Key → Bool) (ps : List Pair) → KeysUpTo n ps → KeysUpTo n (remove_entry test ps)
-removed_upto n test [] upto = upto
-removed_upto n test (x ∷ es) upto =
-    go (test x.0) (removed_upto n test es (All-tail (λ (y : Pair). y.0.stamp ≤ n) x es upto))
-  where
-    go : (b : Bool) → KeysUpTo n (remove_entry test es) → KeysUpTo n (cond b es (x ∷ remove_entry test es))
-    go true rest = All-tail (λ (y : Pair). y.0.stamp ≤ n) x es upto
-    go false rest = All-cons (λ (y : Pair). y.0.stamp ≤ n) x (remove_entry test es)
-        (All-head (λ (y : Pair). y.0.stamp ≤ n) x es upto) rest
-
 promoted_upto : (n : ℕ) (test : Key → Bool) (ps : List Pair) → KeysUpTo n ps → KeysUpTo n (promoted test ps)
-promoted_upto n test ps upto = go (lookup_entry test ps) refl
-  where
-    go : (o : Option Pair) → lookup_entry test ps ≡ o → KeysUpTo n (option_map_or (λ e. e ∷ remove_entry test ps) o ps)
-    go None h = upto
-    go (Some e) h = All-cons (λ (y : Pair). y.0.stamp ≤ n) e (remove_entry test ps) (found_upto n test ps e upto h)
-        (removed_upto n test ps upto)
+promoted_upto n test ps upto = λ i d within.
+    let pair = get_or (promoted test ps) i d in
+    let there : Contains ps pair =
+    Contains-promoted test ps pair (All-contains_itself (promoted test ps) i d within) in
+    All-contains (λ (y : Pair). y.0.stamp ≤ n) ps pair upto there
 
 pub found_keys : (a b : Cache) (n : ℕ) (key : Key) → KeysUpTo n a.pairs → b ≡ after_get key a → KeysUpTo n b.pairs
 found_keys a b n key upto is = subst (λ (ps : List Pair). KeysUpTo n ps) (sym (ap (λ (c : Cache). c.pairs) is))

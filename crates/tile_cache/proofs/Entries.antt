@@ -1,17 +1,14 @@
 -- The cache of lru, whose entries hold vectors, beside the pairs that contracts see.
-use Rattle.std.proofs.Common.{◌≡◌, ◌∙◌, ◌+◌, ◌-◌, ◌<◌, ◌≤◌, ℕ, zero, suc, Bool, true, false, cond}
-use Rattle.std.proofs.Common.{refl, sym, ap, arith, le-leb}
-use Rattle.std.proofs.Common.{List, [], ◌∷◌, length, take, map, Option, Some, None, option_map, is_some, Vec, Global}
+use Rattle.std.proofs.Common.{◌≡◌, ◌∙◌, ◌+◌, ◌-◌, ◌<◌, ◌≤◌, ℕ, zero, suc, Bool, true, false, refl, sym, ap, arith}
+use Rattle.std.proofs.Common.{le-leb, List, [], ◌∷◌, length, take, map, Option, Some, None, Vec, Global}
 use Rattle.std.specs.Prelude.{slice_get}
 use Rattle.std.specs.List.{sum_by}
 use Rattle.std.specs.Option.{option_map_or}
 use Rattle.std.specs.Map.{lookup, lookup_entry, remove_entry}
 use Rattle.std.proofs.lemmas.List.{take_all}
-use Rattle.std.proofs.lemmas.List.Sums.{sum_by-cons}
-use Rattle.std.proofs.lemmas.Map.Made.{lookup-map_values}
+use Rattle.std.proofs.lemmas.List.Sums.{sum_by-cons, sum_by_more}
+use Rattle.std.proofs.lemmas.Option.{get_or_from_slice_get}
 use Rattle.lru.specs.LruCache.{LruCache, promoted, put_entries}
-use Rattle.lru.proofs.CallerLemmas.{Contains-lookup_entry}
-use Rattle.lru.proofs.Pairs.{lookup-lookup_entry}
 use Rattle.tile_cache.specs.Pairs.{Cache, Pair}
 use Rattle.tile_cache.specs.Kept.{kept, has_room, put_in}
 use Rattle.tile_cache.specs.Cache.{after_drops, after_put, cache, same_key, size, sizes}
@@ -20,38 +17,6 @@ use Rattle.tile_cache.specs.declared.Key.{Key}
 use Rattle.tile_cache.proofs.Kept.{dropped_until-take, kept-map, put_in-map}
 
 -- ---- looking up
-
-pub lookup-pairs : (test : Key → Bool) (es : List Entry)
-    → lookup test (map pair_of es) ≡ option_map (λ v. v.items) (lookup test es)
-lookup-pairs test es = lookup-map_values (λ (v : Vec ℕ Global). v.items) test es
-
-pub is_some-pairs : (test : Key → Bool) (es : List Entry)
-    → is_some (lookup test es) ≡ is_some (lookup test (map pair_of es))
-is_some-pairs test [] = refl
-is_some-pairs test (e ∷ es) = go (test e.0) (is_some-pairs test es)
-  where
-    go : (b : Bool) → is_some (lookup test es) ≡ is_some (lookup test (map pair_of es))
-        → is_some (cond b (Some e.1) (lookup test es))
-        ≡ is_some (cond b (Some e.1.items) (lookup test (map pair_of es)))
-    go true rest = refl
-    go false rest = rest
-
-lookup_entry-pairs : (test : Key → Bool) (es : List Entry)
-    → lookup_entry test (map pair_of es) ≡ option_map pair_of (lookup_entry test es)
-lookup_entry-pairs test [] = refl
-lookup_entry-pairs test (e ∷ es) = go (test e.0) (lookup_entry-pairs test es)
-  where
-    go : (b : Bool) → lookup_entry test (map pair_of es) ≡ option_map pair_of (lookup_entry test es)
-        → cond b (Some (pair_of e)) (lookup_entry test (map pair_of es))
-        ≡ option_map pair_of (cond b (Some e) (lookup_entry test es))
-    go true rest = refl
-    go false rest = rest
-
--- a pair that is found passes the test, and its value is the one that is looked up
-found : {K X : Type 0} (test : K → Bool) (es : List (K × X)) (e : K × X) → lookup_entry test es ≡ Some e
-    → (test e.0 ≡ true) × (lookup test es ≡ Some e.1)
-found test es e is =
-    ((Contains-lookup_entry test es e is).1, sym (lookup-lookup_entry test es) ∙ ap (option_map (λ entry. entry.1)) is)
 
 -- a key that isn't there isn't in a prefix
 none-take : (test : Key → Bool) (n : ℕ) (es : List Entry) → lookup test (map pair_of es) ≡ None
@@ -65,29 +30,6 @@ none-take test (suc n) (e ∷ es) none = (elim (test e.0)
     ]) refl
 
 -- ---- bringing to the front
-
-remove_entry-pairs : (test : Key → Bool) (es : List Entry)
-    → remove_entry test (map pair_of es) ≡ map pair_of (remove_entry test es)
-remove_entry-pairs test [] = refl
-remove_entry-pairs test (e ∷ es) = go (test e.0) (remove_entry-pairs test es)
-  where
-    go : (b : Bool) → remove_entry test (map pair_of es) ≡ map pair_of (remove_entry test es)
-        → cond b (map pair_of es) (pair_of e ∷ remove_entry test (map pair_of es))
-        ≡ map pair_of (cond b es (e ∷ remove_entry test es))
-    go true rest = refl
-    go false rest = ap (λ ps. pair_of e ∷ ps) rest
-
-pub promoted-pairs : (test : Key → Bool) (es : List Entry)
-    → map pair_of (promoted test es) ≡ promoted test (map pair_of es)
-promoted-pairs test es =
-    let ps = map pair_of es in
-    let front : Option Pair → List Pair = λ o. option_map_or (λ p. p ∷ remove_entry test ps) o ps in
-    go (lookup_entry test es) ∙ ap front (sym (lookup_entry-pairs test es))
-  where
-    go : (o : Option Entry) → map pair_of (option_map_or (λ e. e ∷ remove_entry test es) o es)
-        ≡ option_map_or (λ p. p ∷ remove_entry test (map pair_of es)) (option_map pair_of o) (map pair_of es)
-    go None = refl
-    go (Some e) = ap (λ ps. pair_of e ∷ ps) (sym (remove_entry-pairs test es))
 
 -- what is found and the rest make the whole
 found_and_rest : (f : Entry → ℕ) (test : Key → Bool) (es : List Entry) (e : Entry) → lookup_entry test es ≡ Some e
@@ -126,35 +68,22 @@ length-promoted test es = go (lookup_entry test es) refl
     go None is = refl
     go (Some e) is = found_length test es e is
 
--- a key finds the same once its pair is in front
-pub lookup-promoted : {K X : Type 0} (test : K → Bool) (es : List (K × X))
-    → lookup test (promoted test es) ≡ lookup test es
-lookup-promoted {K} {X} test es = go (lookup_entry test es) refl
-  where
-    go : (o : Option (K × X)) → lookup_entry test es ≡ o
-        → lookup test (option_map_or (λ e. e ∷ remove_entry test es) o es) ≡ lookup test es
-    go None is = refl
-    go (Some e) is = let f = found test es e is in rw (f.0, f.1) refl
-
 -- ---- sums
-
--- the last one and those before it
-popped_at : (f : Entry → ℕ) (m : ℕ) (es : List Entry) (e : Entry) → length es ≡ suc m → slice_get es m ≡ Some e
-    → sum_by f (take m es) + f e ≡ sum_by f es
-popped_at f m [] e count is = cc
-popped_at f zero (x ∷ []) e count is = let same : x ≡ e = cc in rw (← same, sum_by-cons f x []) (omega arith)
-popped_at f zero (x ∷ y ∷ es) e count is = absurd (omega arith)
-popped_at f (suc m) (x ∷ es) e count is =
-    let on = popped_at f m es e (omega arith) is in
-    rw (sum_by-cons f x (take m es), sum_by-cons f x es) (omega (arith, on))
 
 pub some_length : (es : List Entry) (i : ℕ) (e : Entry) → slice_get es i ≡ Some e → 0 < length es
 some_length [] i e is = cc
 some_length (x ∷ es) i e is = omega arith
 
+-- the last one and those before it
 pub popped : (f : Entry → ℕ) (es : List Entry) (e : Entry) → slice_get es (length es - 1) ≡ Some e
     → sum_by f (take (length es - 1) es) + f e ≡ sum_by f es
-popped f es e is = let some = some_length es (length es - 1) e is in popped_at f (length es - 1) es e (omega arith) is
+popped f es e is =
+    let some = some_length es (length es - 1) e is in
+    let last = get_or_from_slice_get es (length es - 1) e e is in
+    let all : length es - 1 + 1 ≡ length es = omega (arith, some) in
+    let more = sum_by_more f es (length es - 1) e (omega (arith, some)) in
+    let whole : take (length es - 1 + 1) es ≡ es = take_all (length es - 1 + 1) es (omega (arith, some)) in
+    sym (more ∙ ap (λ n. sum_by f (take (length es - 1) es) + f n) last) ∙ ap (sum_by f) whole
 
 -- ---- a put
 

@@ -86,11 +86,3 @@ pub room_parts : {X : Type 0} (size : X → ℕ) (slots budget n : ℕ) (xs : Li
 room_parts size slots budget n xs room =
     let (fits, short) = and_parts (nat_le (sum_by size xs + n) budget) (nat_lt (length xs) slots) room in
     (leb-true (sum_by size xs + n) budget fits, ltb-true (length xs) slots short)
-
--- ---- prefixes of a list
-
-pub take-less : {X : Type 0} (m n : ℕ) (xs : List X) → m ≤ n → take m (take n xs) ≡ take m xs
-take-less zero n xs less = refl
-take-less (suc m) zero xs less = absurd (omega arith)
-take-less (suc m) (suc n) [] less = refl
-take-less (suc m) (suc n) (x ∷ xs) less = ap (λ ys. x ∷ ys) (take-less m n xs (omega arith))

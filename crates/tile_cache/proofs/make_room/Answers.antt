@@ -1,9 +1,9 @@
 use Rattle.std.proofs.Common.{◌≡◌, ◌∙◌, ◌-◌, ℕ, true, false, length, take, sym, ap, arith, List}
-use Rattle.std.proofs.lemmas.List.{length-take-le}
+use Rattle.std.proofs.lemmas.List.{length-take-le, take-take}
 use Rattle.lru.specs.LruCache.{lru_cache}
 use Rattle.tile_cache.specs.Kept.{has_room, kept}
 use Rattle.tile_cache.specs.inner.Inside.{Entry, entry_size}
-use Rattle.tile_cache.proofs.Kept.{dropped_until_done, dropped_until_less, take-less}
+use Rattle.tile_cache.proofs.Kept.{dropped_until_done, dropped_until_less}
 use Rattle.tile_cache.proofs.Entries.{popped, some_length}
 use Rattle.tile_cache.proofs.make_room.Goals as goal
 
@@ -24,7 +24,7 @@ drops-preserved c =
     let count : length (take (length es - 1) es) ≡ length es - 1 = length-take-le (length es - 1) es (omega arith) in
     let part : take (length es - 1) es ≡ take (length es - 1) all =
     ap (λ (xs : List Entry). take (length es - 1) xs) c.drops.invariant.prefix
-    ∙ take-less (length es - 1) (length es) all (omega arith) in
+    ∙ take-take (length es - 1) (length es) all (omega arith) in
     let full : p (take (length es) all) ≡ false =
     ap p (sym c.drops.invariant.prefix) ∙ (sym c.has_room_for.ensures ∙ c.drops-test.true) in
     let less = dropped_until_less p (length es) (length es - 1) all (omega arith) full in

@@ -1,5 +1,4 @@
-use Rattle.std.proofs.Common.{◌≡◌, ◌∙◌, ◌+◌, ◌-◌, ◌*◌, ◌≤◌, ℕ, List, ◌++◌, length, sym, ap, arith}
-use Rattle.plane_view.specs.Lent.{sample_at}
+use Rattle.std.proofs.Common.{◌≡◌, ◌∙◌, ◌-◌, ◌*◌, ◌≤◌, ℕ, List, ◌++◌, length, sym, ap, arith}
 use Rattle.plane_view.specs.Rectangles.{height, width}
 use Rattle.plane_view.proofs.Samples.{length-samples_of}
 use Rattle.kept_cells.proofs.Cut.{no_samples, rows_more, rows_of}

@@ -1,7 +1,7 @@
 use Rattle.std.proofs.Common.{◌∙◌, ap, refl}
 use Rattle.std.specs.Map.{lookup}
 use Rattle.tile_cache.specs.Cache.{same_key}
-use Rattle.tile_cache.proofs.Entries.{lookup-promoted}
+use Rattle.tile_cache.proofs.Values.{lookup-promoted}
 use Rattle.tile_cache.proofs.TileCache.get.Goals as goal
 
 pub returns : goal.returns
