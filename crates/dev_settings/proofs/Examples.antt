@@ -7,7 +7,7 @@ use Rattle.dev_settings.specs.declared.command.LineFault.TheVariants as fault
 use Rattle.dev_settings.specs.declared.settings.Change.TheVariants.{White, Matrix, Tone}
 use Rattle.dev_settings.specs.declared.settings.MatrixChoice.TheVariants.{Own}
 use Rattle.tone_table.specs.declared.Curve.TheVariants.{Knots}
-use Rattle.dev_settings.specs.Lines.{lines_of, all_lines, text_of}
+use Rattle.dev_settings.specs.Lines.{lines_of, all_lines, line_text_of}
 use Rattle.dev_settings.specs.Words.{words, number_of}
 use Rattle.dev_settings.specs.Commands.{command_of}
 
@@ -44,7 +44,7 @@ no_line_feed_at_end = refl
 empty_script : all_lines (lines_of []) ≡ []
 empty_script = refl
 
-one_return_dropped : text_of (codes "b\r\r") ≡ codes "b\r"
+one_return_dropped : line_text_of (codes "b\r\r") ≡ Some (codes "b\r")
 one_return_dropped = refl
 
 a_region : command_of (codes " region 4 4  3 1 ppm") ≡ Ok (Region 4 4 3 1 Ppm)

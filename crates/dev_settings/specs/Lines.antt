@@ -1,7 +1,6 @@
 -- The lines of a script, which are this project's own.
-use Rattle.std.specs.Prelude.{ℕ, ◌-◌, List, [], ◌∷◌, ◌++◌, if◌then◌else◌, ◌==◌, nat_eq, nat_lt, length, take, Option}
-use Rattle.std.specs.Prelude.{Some, None}
-use Rattle.std.specs.List.{ends_with}
+use Rattle.std.specs.Prelude.{ℕ, List, [], ◌∷◌, ◌++◌, if◌then◌else◌, ◌==◌, nat_lt, length, Option, Some, None}
+use Rattle.std.specs.Str.Lines.{strip_carriage_return}
 
 -- the bytes of a script: the lines that a line feed (10) ends, each without it, and what follows the last line feed
 pub record Lines : Type 0 where
@@ -37,10 +36,6 @@ last_line (byte ∷ bytes) = (byte ∷ bytes) ∷ []
 abbrev pub all_lines : Lines → List (List ℕ)
 all_lines lines = lines.complete ++ last_line lines.rest
 
--- the text of a line: a carriage return (13) that is its last byte is dropped
-abbrev pub text_of : List ℕ → List ℕ
-text_of line = if ends_with nat_eq line (13 ∷ []) then take (length line - 1) line else line
-
--- the text of a line of at most 4,096 bytes, a carriage return at its end counted
+-- the text of a line of at most 4,096 bytes, a carriage return (13) at its end counted: the line without it
 abbrev pub line_text_of : List ℕ → Option (List ℕ)
-line_text_of line = if nat_lt 4096 (length line) then None else Some (text_of line)
+line_text_of line = if nat_lt 4096 (length line) then None else Some (strip_carriage_return line)
