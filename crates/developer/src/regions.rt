@@ -84,7 +84,7 @@ pub(crate) fn write_image<B: Base, O: Sink, L: Ledger>(
         format,
         &mut piece,
     );
-    let rows = (rect.bottom - rect.top).min(session.cell());
+    let rows = (rect.bottom - rect.top).min(session.side());
     let mut samples = vec![in alloc; 0u16; rows as usize * row_length(rect)]?;
     write_bands(session, rect, format, &mut piece, &mut samples, out, work)
 }
@@ -144,7 +144,7 @@ fn write_bands<B: Base, O: Sink, L: Ledger>(
     ensures left { IfErr result (λ stop. MadeUpTo stop.cause session.old session.new (bands_of session.old.side rect)
         work.old work.new) }
 {
-    let side = session.cell();
+    let side = session.side();
     let mut written = 0;
     for k in rect.top / side..(rect.bottom + side - 1) / side {
         let band = band_at(rect, k, side);

@@ -69,7 +69,7 @@ fn next_band<B: Base, L: Ledger>(
     ensures stages { session.new.stages ≡ session.old.stages }
 {
     let shape = session.shape();
-    let bottom = shape.rows.min(top.saturating_add(session.cell()));
+    let bottom = shape.rows.min(top.saturating_add(session.side()));
     if bottom <= top {
         return None;
     }

@@ -88,21 +88,21 @@ impl<B: Base, S: Stage> Session<B, S> {
         alloc: Global,
         base: B,
         stages: Vec<S>,
-        cell: u32,
+        side: u32,
         budget: u64,
     ) -> Result<Session<B, S>, OpenFault>
         requires some { 1 ≤ length stages.items }
         requires few { length stages.items ≤ 64 }
-        requires least { 16 ≤ cell }
-        requires most { cell ≤ 512 }
-        requires multiple { cell % 16 ≡ 0 }
+        requires least { 16 ≤ side }
+        requires most { side ≤ 512 }
+        requires multiple { side % 16 ≡ 0 }
         requires budget { budget ≤ 2 ^ 30 }
         ensures opened { IfOk result (λ session. session ≡ record {
           plane = B.plane base;
           cells = B.cells_of base;
           fetches = B.fetches base;
           stages = stages.items;
-          side = cell;
+          side = side;
           budget = budget;
           fetched = 0;
           ran = 0;
@@ -129,7 +129,7 @@ impl<B: Base, S: Stage> Session<B, S> {
             needed,
             patch: Patch::new(alloc),
             tiles,
-            side: cell,
+            side,
             ran: 0,
         })
     }
@@ -293,7 +293,7 @@ impl<B: Base, S: Stage> Session<B, S> {
     }
 
     /// The side of the cells that it was opened with, from 16 to 512.
-    pub fn cell(&self) -> u32
+    pub fn side(&self) -> u32
         ensures side { result ≡ self.now.side }
         ensures least { 16 ≤ result }
         ensures most { result ≤ 512 }

@@ -234,7 +234,7 @@ pub fn open<'a>(
     alloc: Global,
     rows: u32,
     cols: u32,
-    cell: u32,
+    side: u32,
     budget: u64,
     most: u32,
     done: &'a [Done; 3],
@@ -243,9 +243,9 @@ pub fn open<'a>(
     requires rows { rows ≤ 40 }
     requires some_cols { 1 ≤ cols }
     requires cols { cols ≤ 48 }
-    requires least { 16 ≤ cell }
-    requires most { cell ≤ 512 }
-    requires multiple { cell % 16 ≡ 0 }
+    requires least { 16 ≤ side }
+    requires most { side ≤ 512 }
+    requires multiple { side % 16 ≡ 0 }
     requires budget { budget ≤ 2 ^ 30 }
     ensures stages { IfOk result (λ session. length session.stages ≡ 7) }
     ensures changes { IfOk result (λ session. session.stamps.changes ≡ 0) }
@@ -263,7 +263,7 @@ pub fn open<'a>(
             return Err(OpenFault::Memory);
         };
     }
-    Session::open(alloc, base, stages, cell, budget)
+    Session::open(alloc, base, stages, side, budget)
 }
 
 /// Puts a stage in the place of stage `k` of seven.

@@ -24,8 +24,8 @@ use Rattle.developer.proofs.regions.write_bands.Goals as goal
 pub loop-k-init : goal.loop-k-init
 loop-k-init g c =
     let P : Plane = whole_of apply_of c.args.session.now.stages c.args.session.now.plane in
-    let side : ℕ = c.cell-side.result in
-    let some : 0 < side = omega (arith, c.cell-side.ensures.least) in (
+    let side : ℕ = c.side-side.result in
+    let some : 0 < side = omega (arith, c.side-side.ensures.least) in (
       subst (λ (top : ℕ). InBands g.O.Sink.stands_for g.O.Sink.faults c.args.out.now c.args.out.now c.args.piece.now
           c.args.piece.now 0 c.args.format P c.args.rect top)
           (sym (row_at_first side c.args.rect some c.requires.within.rows))
@@ -46,8 +46,8 @@ write_band-requires-clause-develops g c =
 pub write_band-requires-clause-within : goal.write_band-requires-clause-within
 write_band-requires-clause-within g c =
     let P : Plane = whole_of apply_of c.args.session.now.stages c.args.session.now.plane in
-    let side : ℕ = c.cell-side.result in
-    let some : 0 < side = omega (arith, c.cell-side.ensures.least) in
+    let side : ℕ = c.side-side.result in
+    let some : 0 < side = omega (arith, c.side-side.ensures.least) in
     let rect = c.args.rect in
     let k : ℕ = c.loop-k.k in
     let low : rect.top / side ≤ k = omega arith in
@@ -67,8 +67,8 @@ write_band-requires-clause-within g c =
 pub write_band-requires-clause-few : goal.write_band-requires-clause-few
 write_band-requires-clause-few g c =
     let P : Plane = whole_of apply_of c.args.session.now.stages c.args.session.now.plane in
-    let side : ℕ = c.cell-side.result in
-    let some : 0 < side = omega (arith, c.cell-side.ensures.least) in
+    let side : ℕ = c.side-side.result in
+    let some : 0 < side = omega (arith, c.side-side.ensures.least) in
     let rect = c.args.rect in
     let k : ℕ = c.loop-k.k in
     let low : rect.top / side ≤ k = omega arith in
@@ -88,8 +88,8 @@ pub returns-in_err-written-clause-writes : goal.returns-in_err-written-clause-wr
 returns-in_err-written-clause-writes g c =
     let p = err_from_is_err_and c.from_residual.result c.from_residual.ensures.1 in
     let P : Plane = whole_of apply_of c.args.session.now.stages c.args.session.now.plane in
-    let side : ℕ = c.cell-side.result in
-    let some : 0 < side = omega (arith, c.cell-side.ensures.least) in
+    let side : ℕ = c.side-side.result in
+    let some : 0 < side = omega (arith, c.side-side.ensures.least) in
     let rect = c.args.rect in
     let k : ℕ = c.loop-k.k in
     let low : rect.top / side ≤ k = omega arith in
@@ -118,8 +118,8 @@ pub returns-in_err-written-clause-left : goal.returns-in_err-written-clause-left
 returns-in_err-written-clause-left g c =
     let p = err_from_is_err_and c.from_residual.result c.from_residual.ensures.1 in
     let P : Plane = whole_of apply_of c.args.session.now.stages c.args.session.now.plane in
-    let side : ℕ = c.cell-side.result in
-    let some : 0 < side = omega (arith, c.cell-side.ensures.least) in
+    let side : ℕ = c.side-side.result in
+    let some : 0 < side = omega (arith, c.side-side.ensures.least) in
     let rect = c.args.rect in
     let k : ℕ = c.loop-k.k in
     let low : rect.top / side ≤ k = omega arith in
@@ -136,15 +136,15 @@ returns-in_err-written-clause-left g c =
     c.band_at-band.ensures c.in_err-written.ensures.left in
     rw (p.1, p.2)
     (subst (λ (s : ℕ). MadeUpTo stop.cause c.args.session.now c.write_band.new.session (bands_of s rect) c.args.work.now
-    c.write_band.new.work) c.cell-side.ensures.side
+    c.write_band.new.work) c.side-side.ensures.side
     (band_left side rect c.args.session.now c.loop-k.session c.args.work.now c.loop-k.work k low high made
     c.write_band.new.session c.write_band.new.work stop.cause left))
 
 pub loop-k-preserved : goal.loop-k-preserved
 loop-k-preserved g c =
     let P : Plane = whole_of apply_of c.args.session.now.stages c.args.session.now.plane in
-    let side : ℕ = c.cell-side.result in
-    let some : 0 < side = omega (arith, c.cell-side.ensures.least) in
+    let side : ℕ = c.side-side.result in
+    let some : 0 < side = omega (arith, c.side-side.ensures.least) in
     let rect = c.args.rect in
     let k : ℕ = c.loop-k.k in
     let low : rect.top / side ≤ k = omega arith in
@@ -181,8 +181,8 @@ returns-in_err-write_piece-clause-writes g c =
     let p = err_from_is_err_and c.from_residual-in_err-write_piece.result c.from_residual-in_err-write_piece.ensures.1
     in
     let P : Plane = whole_of apply_of c.args.session.now.stages c.args.session.now.plane in
-    let side : ℕ = c.cell-side.result in
-    let some : 0 < side = omega (arith, c.cell-side.ensures.least) in
+    let side : ℕ = c.side-side.result in
+    let some : 0 < side = omega (arith, c.side-side.ensures.least) in
     let rect = c.args.rect in
     let below = first_below side rect some c.requires.within.rows in
     let end : c.loop-k.k ≡ cells_along rect.bottom side = omega (arith, below) in
@@ -200,8 +200,8 @@ pub returns-in_err-write_piece-clause-left : goal.returns-in_err-write_piece-cla
 returns-in_err-write_piece-clause-left g c =
     let p = err_from_is_err_and c.from_residual-in_err-write_piece.result c.from_residual-in_err-write_piece.ensures.1
     in
-    let side : ℕ = c.cell-side.result in
-    let some : 0 < side = omega (arith, c.cell-side.ensures.least) in
+    let side : ℕ = c.side-side.result in
+    let some : 0 < side = omega (arith, c.side-side.ensures.least) in
     let rect = c.args.rect in
     let below = first_below side rect some c.requires.within.rows in
     let end : c.loop-k.k ≡ cells_along rect.bottom side = omega (arith, below) in
@@ -210,15 +210,15 @@ returns-in_err-write_piece-clause-left g c =
     (all_made cause c.args.session.now c.loop-k.session (bands_of c.args.session.now.side rect) c.args.work.now
     c.loop-k.work
     (subst (λ (s : ℕ). AreMade c.args.session.now c.loop-k.session (bands_of s rect) c.args.work.now c.loop-k.work)
-    c.cell-side.ensures.side
+    c.side-side.ensures.side
     (subst (λ (n : ℕ). AreMade c.args.session.now c.loop-k.session (bands_to side rect n) c.args.work.now c.loop-k.work)
     end c.loop-k.invariant.1)))
 
 pub returns-clause-writes : goal.returns-clause-writes
 returns-clause-writes g c =
     let P : Plane = whole_of apply_of c.args.session.now.stages c.args.session.now.plane in
-    let side : ℕ = c.cell-side.result in
-    let some : 0 < side = omega (arith, c.cell-side.ensures.least) in
+    let side : ℕ = c.side-side.result in
+    let some : 0 < side = omega (arith, c.side-side.ensures.least) in
     let rect = c.args.rect in
     let below = first_below side rect some c.requires.within.rows in
     let end : c.loop-k.k ≡ cells_along rect.bottom side = omega (arith, below) in
@@ -233,12 +233,12 @@ returns-clause-writes g c =
 
 pub returns-clause-made : goal.returns-clause-made
 returns-clause-made g c =
-    let side : ℕ = c.cell-side.result in
-    let some : 0 < side = omega (arith, c.cell-side.ensures.least) in
+    let side : ℕ = c.side-side.result in
+    let some : 0 < side = omega (arith, c.side-side.ensures.least) in
     let rect = c.args.rect in
     let below = first_below side rect some c.requires.within.rows in
     let end : c.loop-k.k ≡ cells_along rect.bottom side = omega (arith, below) in
     subst (λ (s : ℕ). AreMade c.args.session.now c.loop-k.session (bands_of s rect) c.args.work.now c.loop-k.work)
-    c.cell-side.ensures.side
+    c.side-side.ensures.side
     (subst (λ (n : ℕ). AreMade c.args.session.now c.loop-k.session (bands_to side rect n) c.args.work.now c.loop-k.work)
     end c.loop-k.invariant.1)

@@ -62,5 +62,5 @@ invariant_of-result g c =
       small = omega (arith, c.requires.budget, ap (λ (d : Cache). d.budget) made);
       base_right = λ k below now. let both : true ≡ false = sym now ∙ none 0 k in cc;
       right = nothing_right g.S.Stage.apply (held_in tiles.cells stamps) 0 P
-          (tiers_of shaped c.args.cell (shape_of P) c.args.stages.items) (λ p k high low. none p k);
+          (tiers_of shaped c.args.side (shape_of P) c.args.stages.items) (λ p k high low. none p k);
     }
