@@ -3,6 +3,7 @@ use Rattle.std.proofs.Common.{◌≡◌, ℕ, ◌+◌, ◌<◌, ◌≤◌, List,
 use Rattle.std.proofs.Common.{not, refl, sym, ◌∙◌, ap, arith}
 use Rattle.std.specs.List.{All}
 use Rattle.std.specs.List.Sorted.{IsStrictlyIncreasing}
+use Rattle.std.proofs.lemmas.Bool.{not-true}
 use Rattle.std.proofs.lemmas.List.{take_more, append-nil}
 use Rattle.std.proofs.lemmas.List.Elements.{filter_more, filter_agree, filter_passes}
 use Rattle.std.proofs.lemmas.List.Kept.{AllPairs-from_increasing, IsStrictlyIncreasing-filter}
@@ -87,11 +88,7 @@ missing_rises held plane cells wanted = IsStrictlyIncreasing-filter (λ k. not (
 pub missing_absent : (held : Held) (plane : ℕ) (numbers : List ℕ)
     → All (λ k. held.holds plane k ≡ false) (missing held plane numbers)
 missing_absent held plane numbers =
-    λ i d within. not_true _ (filter_passes (λ k. not (held.holds plane k)) numbers i d within)
-  where
-    not_true : (b : Bool) → not b ≡ true → b ≡ false
-    not_true false h = refl
-    not_true true h = cc
+    λ i d within. not-true _ (filter_passes (λ k. not (held.holds plane k)) numbers i d within)
 
 -- what is missing at first isn't held later, where only lower planes were put in between
 pub absent_later : (first later : Held) (plane : ℕ) (numbers : List ℕ)

@@ -1,7 +1,8 @@
 -- Layers of stages, by their numbers.
 use Rattle.std.proofs.Common.{◌≡◌, ℕ, zero, suc, ◌+◌, ◌-◌, ◌<◌, ◌≤◌, List, [], ◌∷◌, ◌++◌, length, take, slice_get}
 use Rattle.std.proofs.Common.{slice_set, Option, None, Some, IsNone, IfSome, refl, sym, ◌∙◌, ap, subst, arith}
-use Rattle.std.proofs.lemmas.Option.{none-some, same_Some}
+use Rattle.std.proofs.lemmas.List.{take_more}
+use Rattle.std.proofs.lemmas.Option.{get_or_from_slice_get, none-some, same_Some, slice_get_within}
 use Rattle.plane_view.specs.declared.Shape.{Shape}
 use Rattle.stage_chain.specs.Chains.{TakeInTurn}
 use Rattle.region_session.specs.declared.layers.Layer.{Layer}
@@ -87,11 +88,9 @@ some_at (x ∷ xs) (suc k) below = some_at xs k (omega arith)
 -- one element more of the first ones
 pub take_next : {X : Type 0} (xs : List X) (i : ℕ) (x : X) → slice_get xs i ≡ Some x → take (i + 1) xs ≡ take i xs
     ++ x ∷ []
-take_next [] i x at = absurd (none-some x at)
-take_next (y ∷ ys) zero x at = ap (λ z. z ∷ []) (same_Some y x at)
-take_next (y ∷ ys) (suc i) x at =
-    let next : suc i + 1 ≡ suc (i + 1) = omega arith in
-    ap (λ (n : ℕ). take n (y ∷ ys)) next ∙ ap (λ zs. y ∷ zs) (take_next ys i x at)
+take_next xs i x at =
+    take_more xs i x (slice_get_within xs i x at)
+    ∙ ap (λ y. take i xs ++ y ∷ []) (get_or_from_slice_get xs i x x at)
 
 -- what is known of layer k, counted from 1
 pub record IsLayerOf {S : Type 0} (takes : S → Shape → Type 0) (shaped : S → Shape → Shape) (input : Shape)

@@ -1,6 +1,7 @@
 -- What making a part of the last plane comes to where none of the cells that it needs there is missing: none is fetched
 -- or run below, and of the keys those of the held cells are brought to the front.
-use Rattle.std.proofs.Common.{◌≡◌, ℕ, ◌+◌, List, [], ◌∷◌, length, map, refl, sym, ◌∙◌, ap, arith}
+use Rattle.std.proofs.Common.{◌≡◌, ℕ, ◌+◌, List, [], length, map, sym, ◌∙◌, ap}
+use Rattle.std.proofs.lemmas.List.{nil_from_length}
 use Rattle.plane_view.specs.declared.Rect.{Rect}
 use Rattle.plane_view.specs.declared.Shape.{Shape}
 use Rattle.plane_view.specs.Plane.{Plane}
@@ -16,14 +17,9 @@ use Rattle.kept_cells.proofs.Lower.{fetches_top, runs_top}
 use Rattle.region_session.specs.declared.layers.Layer.{Layer}
 use Rattle.region_session.proofs.Tiering.{IsOnTop, fetches_none, keep_none, runs_none, tier_on}
 
--- a list of no elements
-nil_of : {X : Type 0} (xs : List X) → length xs ≡ 0 → xs ≡ []
-nil_of [] none = refl
-nil_of (x ∷ xs) none = absurd (omega arith)
-
 -- no number is missing where the list of them is empty
 pub none_of : {X : Type 0} (xs gone : List X) → xs ≡ gone → length xs ≡ 0 → gone ≡ []
-none_of xs gone same none = sym same ∙ nil_of xs none
+none_of xs gone same none = sym same ∙ nil_from_length xs none
 
 -- nothing is needed of the plane below
 no_needs : {S : Type 0} (held : Held) (need : S → Shape → Rect → Rect) (plane : ℕ) (tier : Tier S) (wanted : List Rect)

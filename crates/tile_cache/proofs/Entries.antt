@@ -7,7 +7,7 @@ use Rattle.std.specs.Option.{option_map_or}
 use Rattle.std.specs.Map.{lookup, lookup_entry, remove_entry}
 use Rattle.std.proofs.lemmas.List.{take_all}
 use Rattle.std.proofs.lemmas.List.Sums.{sum_by-cons, sum_by_more}
-use Rattle.std.proofs.lemmas.Option.{get_or_from_slice_get}
+use Rattle.std.proofs.lemmas.Option.{get_or_from_slice_get, slice_get_within}
 use Rattle.lru.specs.LruCache.{LruCache, promoted, put_entries}
 use Rattle.tile_cache.specs.Pairs.{Cache, Pair}
 use Rattle.tile_cache.specs.Kept.{kept, has_room, put_in}
@@ -70,17 +70,12 @@ length-promoted test es = go (lookup_entry test es) refl
 
 -- ---- sums
 
-pub some_length : (es : List Entry) (i : ℕ) (e : Entry) → slice_get es i ≡ Some e → 0 < length es
-some_length [] i e is = cc
-some_length (x ∷ es) i e is = omega arith
-
 -- the last one and those before it
 pub popped : (f : Entry → ℕ) (es : List Entry) (e : Entry) → slice_get es (length es - 1) ≡ Some e
     → sum_by f (take (length es - 1) es) + f e ≡ sum_by f es
 popped f es e is =
-    let some = some_length es (length es - 1) e is in
+    let some = slice_get_within es (length es - 1) e is in
     let last = get_or_from_slice_get es (length es - 1) e e is in
-    let all : length es - 1 + 1 ≡ length es = omega (arith, some) in
     let more = sum_by_more f es (length es - 1) e (omega (arith, some)) in
     let whole : take (length es - 1 + 1) es ≡ es = take_all (length es - 1 + 1) es (omega (arith, some)) in
     sym (more ∙ ap (λ n. sum_by f (take (length es - 1) es) + f n) last) ∙ ap (sum_by f) whole

@@ -1,10 +1,11 @@
 use Rattle.std.proofs.Common.{◌≡◌, ◌∙◌, ◌-◌, ℕ, true, false, length, take, sym, ap, arith, List}
 use Rattle.std.proofs.lemmas.List.{length-take-le, take-take}
+use Rattle.std.proofs.lemmas.Option.{slice_get_within}
 use Rattle.lru.specs.LruCache.{lru_cache}
 use Rattle.tile_cache.specs.Kept.{has_room, kept}
 use Rattle.tile_cache.specs.inner.Inside.{Entry, entry_size}
 use Rattle.tile_cache.proofs.Kept.{dropped_until_done, dropped_until_less}
-use Rattle.tile_cache.proofs.Entries.{popped, some_length}
+use Rattle.tile_cache.proofs.Entries.{popped}
 use Rattle.tile_cache.proofs.make_room.Goals as goal
 
 pub overflow_sub-left : goal.overflow_sub-left
@@ -19,7 +20,7 @@ drops-preserved c =
     let all = c.args.cells.now.entries in
     let last : Entry = (c.in-Some.field-0-0, c.in-Some.cell) in
     let p = has_room entry_size c.args.slots c.args.budget c.args.size in
-    let some = some_length es (length es - 1) last (sym c.in-Some.ensures.value) in
+    let some = slice_get_within es (length es - 1) last (sym c.in-Some.ensures.value) in
     let sum = popped entry_size es last (sym c.in-Some.ensures.value) in
     let count : length (take (length es - 1) es) ≡ length es - 1 = length-take-le (length es - 1) es (omega arith) in
     let part : take (length es - 1) es ≡ take (length es - 1) all =
