@@ -1,16 +1,20 @@
 -- A list of files with names: the place of a name, the file there, and a file put in its place.
-use Rattle.std.proofs.Common.{◌≡◌, ℕ, suc, ◌-◌, ◌^◌, ◌<◌, ◌≤◌, min, take, Bool, true, false, cond, ◌||◌, List, [], ◌∷◌}
-use Rattle.std.proofs.Common.{◌++◌, length, get_or, set, drop, Option, Some, None, refl, sym, ◌∙◌, ap, subst, inl, inr}
-use Rattle.std.proofs.Common.{arith}
+use Rattle.std.proofs.Common.{◌≡◌, ℕ, suc, ◌+◌, ◌-◌, ◌^◌, ◌<◌, ◌≤◌, min, take, Bool, true, false, cond, not, ◌||◌}
+use Rattle.std.proofs.Common.{List, [], ◌∷◌, ◌++◌, length, get_or, set, drop, Option, Some, None, refl, sym, ◌∙◌, ap}
+use Rattle.std.proofs.Common.{subst, inl, inr, arith}
 use Rattle.std.specs.Option.{option_map, option_map_or, is_none, IfSome}
+use Rattle.std.specs.List.{slice_get}
 use Rattle.std.specs.Str.{bytes_eq}
 use Rattle.std.proofs.lemmas.Slice.Eq.{bytes_eq-Decides}
 use Rattle.std.proofs.lemmas.Bool.{false≢true, cases_lt}
 use Rattle.std.proofs.Math.Nat.{le_refl}
 use Rattle.std.proofs.lemmas.List.{take_at, length-take, length-drop, length-append}
+use Rattle.std.proofs.lemmas.List.Folds.{find_at}
+use Rattle.std.proofs.lemmas.List.Sums.{passes_at_first}
+use Rattle.std.proofs.lemmas.Option.{slice_get-get_or, slice_get_past, slice_get_within, get_or_from_slice_get}
 use Rattle.raw_io.specs.Outside.{Rises, ReadsAt}
-use Rattle.raw_io.specs.Memory.{CallNumbers, called, next_fails, one_more, MemoryFile, MemoryFiles, file_of, with_file}
-use Rattle.raw_io.specs.Memory.{contents_of, faults_of, with_contents, with_fault, files_failed}
+use Rattle.raw_io.specs.Memory.{CallNumbers, called, next_fails, one_more, MemoryFile, MemoryFiles, is_named, file_of}
+use Rattle.raw_io.specs.Memory.{with_file, contents_of, faults_of, with_contents, with_fault, files_failed}
 use Rattle.raw_io.specs.inner.Places.{place_of}
 
 cond_true : {A : Type 0} (b : Bool) (x y : A) → b ≡ true → cond b x y ≡ x
@@ -21,26 +25,11 @@ cond_false b x y e = ap (λ (t : Bool). cond t x y) e
 
 pub file_at_place : (name : List ℕ) (files : List MemoryFile) (d : MemoryFile) → place_of name files < length files
     → file_of name files ≡ Some (get_or files (place_of name files) d)
-file_at_place name [] d within = absurd (omega arith)
-file_at_place name (file ∷ files) d within =
-    at_head (bytes_eq file.name name) (place_of name files) (file_of name files) within
-    (λ h. file_at_place name files d h)
-  where
-    at_head : (b : Bool) (p : ℕ) (found : Option MemoryFile) → cond b 0 (suc p) < suc (length files)
-        → (p < length files → found ≡ Some (get_or files p d))
-        → cond b (Some file) found ≡ Some (get_or (file ∷ files) (cond b 0 (suc p)) d)
-    at_head true p found h rest = refl
-    at_head false p found h rest = rest (omega arith)
+file_at_place name files d within =
+    find_at (is_named name) files ∙ slice_get-get_or files (place_of name files) d within
 
 pub no_file : (name : List ℕ) (files : List MemoryFile) → length files ≤ place_of name files → file_of name files ≡ None
-no_file name [] past = refl
-no_file name (file ∷ files) past =
-    at_head (bytes_eq file.name name) (place_of name files) (file_of name files) past (λ h. no_file name files h)
-  where
-    at_head : (b : Bool) (p : ℕ) (found : Option MemoryFile) → suc (length files) ≤ cond b 0 (suc p)
-        → (length files ≤ p → found ≡ None) → cond b (Some file) found ≡ None
-    at_head true p found h rest = absurd (omega arith)
-    at_head false p found h rest = rest (omega arith)
+no_file name files past = find_at (is_named name) files ∙ slice_get_past files (place_of name files) past
 
 pub set_place : (new : MemoryFile) (files : List MemoryFile) → place_of new.name files < length files
     → set files (place_of new.name files) new ≡ with_file new files
@@ -49,11 +38,14 @@ set_place new (file ∷ files) within =
     at_head (bytes_eq file.name new.name) (place_of new.name files) (with_file new files) within
     (λ h. set_place new files h)
   where
-    at_head : (b : Bool) (p : ℕ) (done : List MemoryFile) → cond b 0 (suc p) < suc (length files)
+    at_head : (b : Bool) (p : ℕ) (done : List MemoryFile) → cond (not b) (1 + p) 0 < suc (length files)
         → (p < length files → set files p new ≡ done)
-        → set (file ∷ files) (cond b 0 (suc p)) new ≡ cond b (new ∷ files) (file ∷ done)
+        → set (file ∷ files) (cond (not b) (1 + p) 0) new ≡ cond b (new ∷ files) (file ∷ done)
     at_head true p done h rest = refl
-    at_head false p done h rest = ap (λ (fs : List MemoryFile). file ∷ fs) (rest (omega arith))
+    at_head false p done h rest =
+        let onward : 1 + p ≡ suc p = omega arith in
+        ap (λ (n : ℕ). set (file ∷ files) n new) onward
+        ∙ ap (λ (fs : List MemoryFile). file ∷ fs) (rest (omega arith))
 
 pub push_place : (new : MemoryFile) (files : List MemoryFile) → length files ≤ place_of new.name files
     → files ++ new ∷ [] ≡ with_file new files
@@ -62,22 +54,19 @@ push_place new (file ∷ files) past =
     at_head (bytes_eq file.name new.name) (place_of new.name files) (with_file new files) past
     (λ h. push_place new files h)
   where
-    at_head : (b : Bool) (p : ℕ) (done : List MemoryFile) → suc (length files) ≤ cond b 0 (suc p)
+    at_head : (b : Bool) (p : ℕ) (done : List MemoryFile) → suc (length files) ≤ cond (not b) (1 + p) 0
         → (length files ≤ p → files ++ new ∷ [] ≡ done) → file ∷ files ++ new ∷ [] ≡ cond b (new ∷ files) (file ∷ done)
     at_head true p done h rest = absurd (omega arith)
     at_head false p done h rest = ap (λ (fs : List MemoryFile). file ∷ fs) (rest (omega arith))
 
 -- the file that is found has the name
 pub named : (name : List ℕ) (files : List MemoryFile) (f : MemoryFile) → file_of name files ≡ Some f → f.name ≡ name
-named name [] f found = absurd (cc found)
-named name (file ∷ files) f found = at_head (λ h. named name files f h) (bytes_eq file.name name) refl found
-  where
-    at_head : (file_of name files ≡ Some f → f.name ≡ name) → (b : Bool) → bytes_eq file.name name ≡ b
-        → cond b (Some file) (file_of name files) ≡ Some f → f.name ≡ name
-    at_head rest true e h =
-        let same : file ≡ f = cc h in
-        sym (ap (λ (x : MemoryFile). x.name) same) ∙ (bytes_eq-Decides file.name name).0 e
-    at_head rest false e h = rest h
+named name files f found =
+    let place = place_of name files in
+    let there : slice_get files place ≡ Some f = sym (find_at (is_named name) files) ∙ found in
+    let is : get_or files place f ≡ f = get_or_from_slice_get files place f f there in
+    let within : place < length files = slice_get_within files place f there in
+    (bytes_eq-Decides f.name name).0 (ap (is_named name) (sym is) ∙ passes_at_first (is_named name) files f within)
 
 -- what a look-up finds once a file was put in its place
 pub file_of-with_file : (other : List ℕ) (new : MemoryFile) (files : List MemoryFile)

@@ -1,13 +1,14 @@
 -- Files, sources and sinks in memory, as contracts see them. All of it is this project's own.
-use Rattle.std.specs.Prelude.{ℕ, ◌+◌, ◌-◌, ◌^◌, ◌==◌, min, Bool, if◌then◌else◌, List, [], ◌∷◌, ◌++◌, drop}
+use Rattle.std.specs.Prelude.{ℕ, ◌+◌, ◌==◌, Bool, if◌then◌else◌, List, [], ◌∷◌, ◌++◌, drop}
 use Rattle.std.specs.Prelude.{Option, None, Some, option_map}
-use Rattle.std.specs.List.{list_any}
+use Rattle.std.specs.Io.Iter.{u64_saturate}
+use Rattle.std.specs.List.{find, list_any}
 use Rattle.std.specs.Option.{option_map_or}
 use Rattle.std.specs.Str.{bytes_eq}
 
 -- a count after one more, held at its last value
 abbrev pub one_more : ℕ → ℕ
-one_more n = min (n + 1) (2 ^ 64 - 1)
+one_more n = u64_saturate (n + 1)
 
 -- how many calls were made, and the numbers of those that fail, counted from 1
 pub record CallNumbers : Type 0 where
@@ -81,15 +82,18 @@ pub record MemoryFiles : Type 0 where
   pub others : ℕ
   pub calls : CallNumbers
 
+-- whether a file has this name
+abbrev pub is_named : List ℕ → MemoryFile → Bool
+is_named name file = bytes_eq file.name name
+
 -- the file of this name, if it is there
 abbrev pub file_of : List ℕ → List MemoryFile → Option MemoryFile
-file_of name [] = None
-file_of name (file ∷ files) = if bytes_eq file.name name then Some file else file_of name files
+file_of name files = find (is_named name) files
 
 -- the files with this one in the place of that of its name, or behind all
 abbrev pub with_file : MemoryFile → List MemoryFile → List MemoryFile
 with_file new [] = new ∷ []
-with_file new (file ∷ files) = if bytes_eq file.name new.name then new ∷ files else file ∷ with_file new files
+with_file new (file ∷ files) = if is_named new.name file then new ∷ files else file ∷ with_file new files
 
 -- the contents under a name that is there
 abbrev pub contents_of : MemoryFiles → List ℕ → Option (List ℕ)

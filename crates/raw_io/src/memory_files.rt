@@ -5,7 +5,7 @@ ghost use Rattle.std.specs.Prelude.{drop, Option, Some, None, IfOk, OnOk, OnErr,
 ghost use Rattle.std.specs.Str.{bytes_eq};
 ghost use Rattle.raw_io.specs.Outside.{Rises, ReadsAt};
 ghost use Rattle.raw_io.specs.Memory.{CallNumbers, called, one_more, next_fails, with_failing, no_calls, MemoryFile};
-ghost use Rattle.raw_io.specs.Memory.{MemoryFiles, file_of, with_file, contents_of, faults_of, with_contents};
+ghost use Rattle.raw_io.specs.Memory.{MemoryFiles, is_named, file_of, with_file, contents_of, faults_of, with_contents};
 ghost use Rattle.raw_io.specs.Memory.{files_read, files_failed};
 ghost use Rattle.raw_io.specs.inner.Places.{place_of};
 
@@ -39,7 +39,7 @@ impl MemFile {
     }
 
     fn is_named(&self, name: &[u8]) -> bool
-        ensures { result ≡ bytes_eq self.now.name name.now }
+        ensures { result ≡ is_named name.now self.now }
     {
         self.name.as_slice() == name
     }
