@@ -1,6 +1,7 @@
 -- The lines of a script, answered one after the other in any state.
 use Rattle.std.proofs.Common.{◌≡◌, ℕ, List, [], ◌∷◌, ◌++◌, refl, sym, ◌∙◌, ap, append_assoc}
-use Rattle.raw_io.specs.Outside.{IsPrefixOf}
+use Rattle.std.specs.Io.{StartsWith}
+use Rattle.std.proofs.Transfers.{starts_with_of_append, starts_with_trans}
 use Rattle.developer.specs.Answers.{Answer, answers, then_answer}
 
 -- the answers to lines in two pieces
@@ -28,11 +29,10 @@ module _ {State : Type 0} (answer : State → List ℕ → Answer State) (start 
 
   -- a prefix of the answers to the first lines is one of the answers to all
   pub answers_prefix : (prefix lines : List (List ℕ)) (written : List ℕ)
-      → IsPrefixOf written (answers answer start prefix).bytes
-      → IsPrefixOf written (answers answer start (prefix ++ lines)).bytes
-  answers_prefix prefix lines written (rest, is) =
-      let more : List ℕ = (answers answer (answers answer start prefix).state lines).bytes in (
-        rest ++ more,
-        ap (λ (a : Answer State). a.bytes) (answers-append answer start prefix lines)
-            ∙ (ap (λ (bytes : List ℕ). bytes ++ more) is ∙ append_assoc written rest more),
-      )
+      → StartsWith (answers answer start prefix).bytes written
+      → StartsWith (answers answer start (prefix ++ lines)).bytes written
+  answers_prefix prefix lines written =
+      starts_with_trans (answers answer start (prefix ++ lines)).bytes (answers answer start prefix).bytes written
+      (starts_with_of_append (answers answer start (prefix ++ lines)).bytes (answers answer start prefix).bytes
+      (answers answer (answers answer start prefix).state lines).bytes
+      (ap (λ (a : Answer State). a.bytes) (answers-append answer start prefix lines)))

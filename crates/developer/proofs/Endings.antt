@@ -5,7 +5,9 @@ use Rattle.std.proofs.Common.{length-append}
 use Rattle.std.specs.Prelude.{IfOk, IfSome, IsOk}
 use Rattle.std.proofs.lemmas.Bool.{cases_lt, lt-ltb, le-ltb}
 use Rattle.std.proofs.lemmas.List.{append-nil, take_all, take-append-le}
-use Rattle.raw_io.specs.Outside.{IsPrefixOf, Takes}
+use Rattle.std.specs.Io.{StartsWith}
+use Rattle.std.specs.Io.KnownBytes.{Consumes}
+use Rattle.std.proofs.Transfers.{starts_with_of_append}
 use Rattle.region_session.specs.declared.tally.Tally.{Tally}
 use Rattle.dev_settings.specs.Lines.{Lines, all_lines, last_line, lines_of}
 use Rattle.dev_settings.proofs.LineLaws.{lines_of-append}
@@ -49,22 +51,24 @@ abbrev pub Calls : InForce → Option (List ℕ) → Transcript → Type 0
 Calls now script e = IfSome (by_told_script now script) (λ t. t ≡ e)
 
 -- what a script that was read whole calls for
-calls_done : (now : InForce) (script left : Option (List ℕ)) (taken : List ℕ) → Takes script left taken
+calls_done : (now : InForce) (script left : Option (List ℕ)) (taken : List ℕ) → Consumes script left taken
     → IfSome script (λ _. left ≡ Some []) → length taken ≤ max_script
     → Calls now script (by_answers (whole_answers now taken) Done)
 calls_done now None left taken t end short = tt
-calls_done now (Some script) left taken (rest, is, l) end short =
-    let none : rest ≡ [] = cc in
+calls_done now (Some script) None taken is end short = absurd is
+calls_done now (Some script) (Some rest) taken is end short =
+    let none : rest ≡ [] = cc end in
     let same : script ≡ taken = is ∙ (ap (λ (r : List ℕ). taken ++ r) none ∙ append-nil taken) in
     script_done now script (subst (λ (b : List ℕ). length b ≤ max_script) (sym same) short)
     ∙ ap (λ (b : List ℕ). by_answers (whole_answers now b) Done) same
 
 -- what a script that is too long calls for
-calls_long : (now : InForce) (script left : Option (List ℕ)) (taken : List ℕ) → Takes script left taken
+calls_long : (now : InForce) (script left : Option (List ℕ)) (taken : List ℕ) → Consumes script left taken
     → length taken ≡ max_script + 1
     → Calls now script (by_answers (complete_answers now taken) ScriptTooLong)
 calls_long now None left taken t long = tt
-calls_long now (Some script) left taken (rest, is, l) long =
+calls_long now (Some script) None taken is long = absurd is
+calls_long now (Some script) (Some rest) taken is long =
     let whole : length script ≡ length taken + length rest = ap length is ∙ length-append taken rest in
     let room : max_script ≤ length taken = omega arith in
     let prefix : take max_script script ≡ take max_script taken = ap (take max_script) is
@@ -74,22 +78,23 @@ calls_long now (Some script) left taken (rest, is, l) long =
 
 -- a prefix of the answers to the complete lines of a script's prefix is one of the answers to the lines of the script
 prefix_of_script : (now : InForce) (prefix bytes written : List ℕ)
-    → IsPrefixOf written (answers_to now (lines_of prefix).complete).bytes
-    → (last : List (List ℕ)) → IsPrefixOf written (answers_to now ((lines_of (prefix ++ bytes)).complete ++ last)).bytes
+    → StartsWith (answers_to now (lines_of prefix).complete).bytes written
+    → (last : List (List ℕ)) → StartsWith (answers_to now ((lines_of (prefix ++ bytes)).complete ++ last)).bytes written
 prefix_of_script now prefix bytes written within last =
     let more : List (List ℕ) = (lines_of ((lines_of prefix).rest ++ bytes)).complete in
     let lines : (lines_of (prefix ++ bytes)).complete ++ last ≡ (lines_of prefix).complete ++ (more ++ last) =
     ap (λ (l : Lines). l.complete ++ last) (lines_of-append prefix bytes)
     ∙ append_assoc (lines_of prefix).complete more last in
-    subst (λ (l : List (List ℕ)). IsPrefixOf written (answers_to now l).bytes) (sym lines)
+    subst (λ (l : List (List ℕ)). StartsWith (answers_to now l).bytes written) (sym lines)
     (answers_prefix answer_of now (lines_of prefix).complete (more ++ last) written within)
 
 -- a prefix of the answers to the complete lines that were taken is one of what is called for
-complete_prefix : (now : InForce) (script left : Option (List ℕ)) (taken written : List ℕ) → Takes script left taken
-    → IsPrefixOf written (complete_answers now taken).bytes
-    → IfSome (by_told_script now script) (λ e. IsPrefixOf written e.bytes)
+complete_prefix : (now : InForce) (script left : Option (List ℕ)) (taken written : List ℕ) → Consumes script left taken
+    → StartsWith (complete_answers now taken).bytes written
+    → IfSome (by_told_script now script) (λ e. StartsWith e.bytes written)
 complete_prefix now None left taken written t within = tt
-complete_prefix now (Some script) left taken written (rest, is, l) within =
+complete_prefix now (Some script) None taken written is within = absurd is
+complete_prefix now (Some script) (Some rest) taken written is within =
     let lengths : length script ≡ length taken + length rest = ap length is ∙ length-append taken rest in
     elim (cases_lt max_script (length script)) [
       | inl long ↦
@@ -97,33 +102,33 @@ complete_prefix now (Some script) left taken written (rest, is, l) within =
           let prefix : take max_script taken ++ take n rest ≡ take max_script script =
           take_both max_script taken rest (take max_script taken) n refl refl ∙ ap (take max_script) (sym is) in
           let lines : List ℕ → List (List ℕ) = λ b. (lines_of b).complete in
-          subst (λ (e : Transcript). IsPrefixOf written e.bytes) (sym (script_long now script long))
-          (subst (λ (b : List (List ℕ)). IsPrefixOf written (answers_to now b).bytes)
+          subst (λ (e : Transcript). StartsWith e.bytes written) (sym (script_long now script long))
+          (subst (λ (b : List (List ℕ)). StartsWith (answers_to now b).bytes written)
           (append-nil (lines (take max_script taken ++ take n rest)) ∙ ap lines prefix)
           (prefix_of_script now (take max_script taken) (take n rest) written within []))
       | inr short ↦
           let whole : take max_script taken ≡ taken = take_all max_script taken (omega arith) in
-          subst (λ (e : Transcript). IsPrefixOf written e.bytes) (sym (script_done now script short))
-          (subst (λ (b : List ℕ). IsPrefixOf written (answers_to now (all_lines (lines_of b))).bytes) (sym is)
+          subst (λ (e : Transcript). StartsWith e.bytes written) (sym (script_done now script short))
+          (subst (λ (b : List ℕ). StartsWith (answers_to now (all_lines (lines_of b))).bytes written) (sym is)
           (prefix_of_script now taken rest written
-          (subst (λ (b : List ℕ). IsPrefixOf written (answers_to now (lines_of b).complete).bytes) whole within)
+          (subst (λ (b : List ℕ). StartsWith (answers_to now (lines_of b).complete).bytes written) whole within)
           (last_line (lines_of (taken ++ rest)).rest)))
     ]
 
 -- the same of the answers to all lines of a script that was taken whole
-whole_prefix : (now : InForce) (script left : Option (List ℕ)) (taken written : List ℕ) → Takes script left taken
+whole_prefix : (now : InForce) (script left : Option (List ℕ)) (taken written : List ℕ) → Consumes script left taken
     → IfSome script (λ _. left ≡ Some []) → length taken ≤ max_script
-    → IsPrefixOf written (whole_answers now taken).bytes
-    → IfSome (by_told_script now script) (λ e. IsPrefixOf written e.bytes)
+    → StartsWith (whole_answers now taken).bytes written
+    → IfSome (by_told_script now script) (λ e. StartsWith e.bytes written)
 whole_prefix now script left taken written t end short within =
     IfSome_then (by_told_script now script) {P = λ e. e ≡ by_answers (whole_answers now taken) Done}
-    {Q = λ e. IsPrefixOf written e.bytes} (calls_done now script left taken t end short)
-    (λ e is. subst (λ (t : Transcript). IsPrefixOf written t.bytes) (sym is) within)
+    {Q = λ e. StartsWith e.bytes written} (calls_done now script left taken t end short)
+    (λ e is. subst (λ (t : Transcript). StartsWith t.bytes written) (sym is) within)
 
 -- nothing is a prefix of what is called for
 pub nothing_prefix : (call : Call) → call.written ≡ [] → IsPrefix call
-nothing_prefix call none = if_some_all (called call) (λ e. IsPrefixOf call.written e.bytes)
-    (λ e. (e.bytes, ap (λ (bytes : List ℕ). bytes ++ e.bytes) (sym none)))
+nothing_prefix call none = if_some_all (called call) (λ e. StartsWith e.bytes call.written)
+    (λ e. starts_with_of_append e.bytes call.written e.bytes (ap (λ (bytes : List ℕ). bytes ++ e.bytes) (sym none)))
 
 -- where nothing is told of the frame, or it was opened, what is called for is by its script
 by_frame : (o : Option Opening) (now : InForce) (script : Option (List ℕ)) (P : Transcript → Type 0)
@@ -248,7 +253,7 @@ module _ {C S : Type 0} (left : C → Option (List ℕ)) (script_faults : C → 
   }
 
   module _ (now state : InForce) (chosen : Options) (asks : options words ≡ Some chosen)
-      (opens : IfSome (opening call_of) (λ o. o ≡ Ok now)) (takes : Takes (left before) (left after) taken) where
+      (opens : IfSome (opening call_of) (λ o. o ≡ Ok now)) (takes : Consumes (left before) (left after) taken) where
     -- it was opened
     frame_opened : IsOpened call_of
     frame_opened = IfSome_then (opening call_of) {P = λ o. o ≡ Ok now} {Q = IsOk} opens (λ o e. subst IsOk (sym e) refl)
@@ -268,10 +273,10 @@ module _ {C S : Type 0} (left : C → Option (List ℕ)) (script_faults : C → 
     -- a prefix of what is called for was written
     frame_prefix : IsPrefixOfAnswers left before after now taken written → IsPrefix call_of
     frame_prefix (inl within) =
-        by_frame (opening call_of) now (left before) (λ e. IsPrefixOf written e.bytes) opens
+        by_frame (opening call_of) now (left before) (λ e. StartsWith e.bytes written) opens
         (complete_prefix now (left before) (left after) taken written takes within)
     frame_prefix (inr (whole, within)) =
-        by_frame (opening call_of) now (left before) (λ e. IsPrefixOf written e.bytes) opens
+        by_frame (opening call_of) now (left before) (λ e. StartsWith e.bytes written) opens
         (whole_prefix now (left before) (left after) taken written takes whole.end whole.short within)
 
     -- how it ended

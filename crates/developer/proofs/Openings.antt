@@ -28,7 +28,7 @@ use Rattle.developer.specs.declared.settings.Planned.{Planned}
 use Rattle.developer.specs.declared.settings.SettingsStop.{SettingsStop}
 use Rattle.developer.specs.declared.settings.SettingsStop.TheVariants as stops
 use Rattle.std.proofs.lemmas.Option.{IfSome_then}
-use Rattle.developer.proofs.Outsides.{rises_last}
+use Rattle.raw_io.proofs.Pieces.{rises_last}
 
 -- a file that is too long
 too_long : (bytes : List ℕ) → 2 ^ 28 < length bytes → file_frame bytes ≡ Err TooLong

@@ -1,10 +1,13 @@
 -- A script that is read piece by piece: the lines that were answered so far, in a piece and in the whole.
 use Rattle.std.proofs.Common.{◌≡◌, ℕ, nat_eq, true, false, List, [], ◌∷◌, ◌++◌, length, Result, Ok, Err, refl, sym, ◌∙◌}
-use Rattle.std.proofs.Common.{ap, subst, append_assoc, length-take, arith}
+use Rattle.std.proofs.Common.{ap, subst, append_assoc, drop, length-take, arith}
 use Rattle.std.specs.Prelude.{OnOk}
 use Rattle.std.proofs.lemmas.Bool.{eqb-true}
 use Rattle.std.proofs.lemmas.List.{append-nil, nil_from_length}
-use Rattle.raw_io.specs.Outside.{Appends, IsPrefixOf}
+use Rattle.std.specs.Io.{StartsWith}
+use Rattle.std.proofs.KnownBytes.{starts_with_rest}
+use Rattle.std.proofs.Transfers.{starts_with_of_append, starts_with_of_eq}
+use Rattle.raw_io.specs.Outside.{Appends}
 use Rattle.dev_settings.specs.Lines.{Lines, last_line, lines_of, unended, with_first}
 use Rattle.developer.specs.Answers.{Answer}
 use Rattle.developer.specs.inner.Reading.{IsAnswered, Sends, kept_of}
@@ -15,7 +18,7 @@ use Rattle.developer.specs.Answered.{ByCause}
 use Rattle.developer.specs.declared.writing.Cause.{Cause}
 use Rattle.developer.specs.declared.writing.Cause.TheVariants as causes
 use Rattle.developer.proofs.Answering.{answers_prefix, answers_then}
-use Rattle.developer.proofs.Outsides.{appends_nothing, appends_then, prefix_whole}
+use Rattle.raw_io.proofs.Pieces.{appends_nothing, appends_then}
 use Rattle.developer.proofs.ScriptLines.{answer_of_kept, line_after, rest_after}
 
 -- the cause of a stop, where the count of faults hadn't changed before
@@ -139,19 +142,20 @@ module _ {S : Type 0} (stands_for : S → List ℕ → Type 0) (faults : S → �
         let cut = a.sends.prefix in
         let both = answers_then answer_of start prefix lines state h.reached in
         let written : List ℕ = (answers_to start prefix).bytes ++ cut.0 in
-        let within : IsPrefixOf written (answers_to start (prefix ++ lines)).bytes = (
-          cut.2.0,
-          ap (λ (b : Answer InForce). b.bytes) both
-              ∙ (ap (λ (bytes : List ℕ). (answers_to start prefix).bytes ++ bytes) cut.2.1
-              ∙ sym (append_assoc (answers_to start prefix).bytes cut.0 cut.2.0)),
-        ) in
+        let later : List ℕ = (answers_to state lines).bytes in
+        let rest : List ℕ = drop (length cut.0) later in
+        let within : StartsWith (answers_to start (prefix ++ lines)).bytes written =
+        starts_with_of_append (answers_to start (prefix ++ lines)).bytes written rest
+        (ap (λ (b : Answer InForce). b.bytes) both
+        ∙ (ap (λ (bytes : List ℕ). (answers_to start prefix).bytes ++ bytes) (starts_with_rest later cut.0 cut.2)
+        ∙ sym (append_assoc (answers_to start prefix).bytes cut.0 rest))) in
         record {
           sends = record {
             whole = tt;
             prefix = (
               written,
               appends_then stands_for first now new (answers_to start prefix).bytes cut.0 h.appends cut.1,
-              subst (λ (l : List (List ℕ)). IsPrefixOf written (answers_to start l).bytes) is
+              subst (λ (l : List (List ℕ)). StartsWith (answers_to start l).bytes written) is
                   (answers_prefix answer_of start (prefix ++ lines) more written within),
             );
             calm = tt;
@@ -171,9 +175,9 @@ module _ {S : Type 0} (stands_for : S → List ℕ → Type 0) (faults : S → �
         prefix = (
           (answers_to start prefix).bytes,
           h.appends,
-          subst (λ (l : List (List ℕ)). IsPrefixOf (answers_to start prefix).bytes (answers_to start l).bytes) is
+          subst (λ (l : List (List ℕ)). StartsWith (answers_to start l).bytes (answers_to start prefix).bytes) is
               (answers_prefix answer_of start prefix more (answers_to start prefix).bytes
-              (prefix_whole (answers_to start prefix).bytes)),
+              (starts_with_of_eq (answers_to start prefix).bytes (answers_to start prefix).bytes refl)),
         );
         calm = tt;
         counts = omega (arith, h.calm);

@@ -1,7 +1,7 @@
 -- What answering a line promises, from what writing and making bands promise.
 use Rattle.std.proofs.Common.{◌≡◌, ℕ, zero, suc, ◌+◌, ◌-◌, ◌≤◌, Bool, true, false, not, inl, inr, ◌⊎◌, List, [], ◌∷◌}
 use Rattle.std.proofs.Common.{length, take, Some, slice_get, slice_set, Result, Ok, Err, IfErr, OnOk, refl, sym, ◌∙◌}
-use Rattle.std.proofs.Common.{ap, subst, arith}
+use Rattle.std.proofs.Common.{ap, subst, drop, arith}
 use Rattle.std.specs.Prelude.{⊤}
 use Rattle.std.proofs.lemmas.Option.{none-some}
 use Rattle.plane_view.specs.Plane.{Plane}
@@ -17,7 +17,9 @@ use Rattle.dev_stages.specs.Plans.{planned}
 use Rattle.dev_stages.specs.contracts.stage.DevStagePartialEq.TheImpl.{ghosts}
 use Rattle.dev_stages.specs.declared.fault.PlanFault.{PlanFault}
 use Rattle.dev_stages.specs.declared.stage.DevStage.{DevStage}
-use Rattle.raw_io.specs.Outside.{IsPrefixOf}
+use Rattle.std.specs.Io.{StartsWith}
+use Rattle.std.proofs.lemmas.List.{take-append-drop}
+use Rattle.std.proofs.Transfers.{starts_with_of_append}
 use Rattle.developer.specs.declared.fault.AnswerFault.{AnswerFault}
 use Rattle.developer.specs.declared.fault.AnswerFault.TheVariants as faults
 use Rattle.developer.specs.Answered.{Appended, AreMade, IsCutAt, LeftAfter, MadeUpTo, cause_of}
@@ -33,13 +35,17 @@ use Rattle.developer.specs.declared.writing.Cause.TheVariants.{Memory, Write}
 use Rattle.developer.specs.declared.writing.Stop.{Stop}
 use Rattle.developer.specs.inner.Developed.{StagesStay}
 use Rattle.developer.proofs.Bandwise.{made_stay, none_made, up_to_stays}
-use Rattle.developer.proofs.Outsides.{prefix_taken}
+
+-- bytes begin with their first ones
+start_taken : (n : ℕ) (bytes : List ℕ) → StartsWith bytes (take n bytes)
+start_taken n bytes =
+    starts_with_of_append bytes (take n bytes) (drop n bytes) (sym (take-append-drop n bytes))
 
 -- as many bytes as were written before a stop
 cut_for : (written : ℕ) (cause : Cause) (bytes : List ℕ) → written ≤ length bytes
     → IsCutAt (fault_for written cause) (take written bytes) bytes
 cut_for written Write bytes within = (refl, within)
-cut_for written Memory bytes within = prefix_taken written bytes
+cut_for written Memory bytes within = start_taken written bytes
 
 -- the fault of a stop has its cause
 pub cause_is : (written : ℕ) (cause : Cause) → cause_of (fault_for written cause) ≡ cause
@@ -60,10 +66,10 @@ module _ {S : Type 0} (stands_for : S → List ℕ → Type 0) (faults : S → �
   }
 
 -- what was written before a fault is a prefix
-prefix_is : (fault : AnswerFault) (written answer : List ℕ) → IsCutAt fault written answer → IsPrefixOf written answer
+prefix_is : (fault : AnswerFault) (written answer : List ℕ) → IsCutAt fault written answer → StartsWith answer written
 prefix_is (faults.Write fault) written answer (is, within) =
-    subst (λ (prefix : List ℕ). IsPrefixOf prefix answer) (sym is)
-    (prefix_taken fault.written answer)
+    subst (StartsWith answer) (sym is)
+    (start_taken fault.written answer)
 prefix_is faults.Memory written answer prefix = prefix
 
 module _ {S : Type 0} (stands_for : S → List ℕ → Type 0) (faults : S → ℕ) (old new : S) (answer : List ℕ) where

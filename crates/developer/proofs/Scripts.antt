@@ -3,7 +3,9 @@ use Rattle.std.proofs.Common.{◌≡◌, ℕ, ◌+◌, ◌-◌, ◌<◌, ◌≤�
 use Rattle.std.proofs.Common.{sym, ◌∙◌, ap, length-append, length-take, arith}
 use Rattle.std.specs.Prelude.{IfSome}
 use Rattle.std.proofs.lemmas.List.{append-nil, take_all}
-use Rattle.raw_io.specs.Outside.{Rises, Takes}
+use Rattle.std.specs.Io.KnownBytes.{Consumes, Keeps}
+use Rattle.std.proofs.KnownBytes.{Consumes-kept, Consumes-nil, Consumes-trans}
+use Rattle.raw_io.specs.Outside.{Rises}
 use Rattle.dev_settings.specs.Lines.{Lines, all_lines, last_line, lines_of}
 use Rattle.dev_settings.proofs.LineLaws.{lines_of-append}
 use Rattle.developer.specs.inner.Reading.{IsAnswered, IsPrefixOfAnswers, IsWhole, Outcome, Reads, kept_of}
@@ -14,8 +16,7 @@ use Rattle.developer.specs.Answered.{ByCause}
 use Rattle.developer.specs.declared.status.Ending.TheVariants as endings
 use Rattle.developer.specs.declared.writing.Cause.{Cause}
 use Rattle.developer.specs.declared.writing.Cause.TheVariants as causes
-use Rattle.raw_io.proofs.Pieces.{rises_since, takes_all, takes_more, takes_none, takes_still}
-use Rattle.developer.proofs.Outsides.{appends_nothing}
+use Rattle.raw_io.proofs.Pieces.{appends_nothing, consumes_all, consumes_still, rises_since}
 use Rattle.developer.proofs.Readings.{HaveAnswers, have_more, have_none, have_same, have_stop}
 use Rattle.developer.proofs.ScriptLines.{take_piece}
 
@@ -44,17 +45,17 @@ module _ {C S : Type 0} (left : C → Option (List ℕ)) (script_faults : C → 
   script_no_memory state = record {
     taken = [];
     written = [];
-    takes = takes_none (left before);
+    takes = Consumes-nil (left before);
     appends = appends_nothing stands_for first;
     script = omega arith;
     sink = omega arith;
-    outcome = inl (_, refl);
+    outcome = inl refl;
   }
 
   -- these bytes were taken, and the complete lines of as many as a script may have were answered
   pub record ScriptSoFar (now : C) (sink : S) (line : List ℕ) (state : InForce) (taken : ℕ) : Type 0 where
     pub bytes : List ℕ
-    pub takes : Takes (left before) (left now) bytes
+    pub takes : Consumes (left before) (left now) bytes
     pub count : length bytes ≡ taken
     pub most : taken ≤ max_script + 1
     pub calm : script_faults now ≡ script_faults before
@@ -67,7 +68,7 @@ module _ {C S : Type 0} (left : C → Option (List ℕ)) (script_faults : C → 
       → ScriptSoFar before first line start 0
   script_none line none begun = record {
     bytes = [];
-    takes = takes_none (left before);
+    takes = Consumes-nil (left before);
     count = refl;
     most = omega arith;
     calm = refl;
@@ -88,14 +89,14 @@ module _ {C S : Type 0} (left : C → Option (List ℕ)) (script_faults : C → 
     so_far_rest = (lines_of (prefix_of so-far.bytes)).rest
 
     -- a read failed
-    pub script_failed : {T : Type 0} (after : C) → taken ≤ max_script → Takes (left now) (left after) []
+    pub script_failed : {T : Type 0} (after : C) → taken ≤ max_script → Keeps (left now) (left after)
         → script_faults now ≤ script_faults after → Rises (script_faults now) (script_faults after)
         → Reads {T = T} left script_faults stands_for sink_faults start before after first sink state
         (Err endings.ReadFault)
     script_failed after short still counts rises = record {
       taken = so-far.bytes;
       written = (answers_to start so_far_lines).bytes;
-      takes = takes_still (left before) (left now) (left after) so-far.bytes so-far.takes still;
+      takes = Consumes-kept (left before) (left now) (left after) so-far.bytes so-far.takes still;
       appends = so-far.have.appends;
       script = omega (arith, so-far.calm);
       sink = omega (arith, so-far.have.calm);
@@ -125,7 +126,7 @@ module _ {C S : Type 0} (left : C → Option (List ℕ)) (script_faults : C → 
     module _ (after : C) (buffer piece : List ℕ) (count within : ℕ) (short : taken ≤ max_script)
         (there : count ≤ length buffer) (room : taken + count ≤ max_script + 1)
         (fits : within ≡ count - ((taken + count) - max_script))
-        (is : piece ≡ take within buffer) (takes : Takes (left now) (left after) (take count buffer))
+        (is : piece ≡ take within buffer) (takes : Consumes (left now) (left after) (take count buffer))
         (calm : script_faults after ≡ script_faults now) where
       -- all bytes that were taken
       abbrev all_bytes : List ℕ
@@ -152,7 +153,8 @@ module _ {C S : Type 0} (left : C → Option (List ℕ)) (script_faults : C → 
           → ScriptSoFar after new line-after state-after (taken + count)
       script_piece new line-after state-after value answered keeps few = record {
         bytes = all_bytes;
-        takes = takes_more (left before) (left now) (left after) so-far.bytes (take count buffer) so-far.takes takes;
+        takes = Consumes-trans (left before) (left now) (left after) so-far.bytes (take count buffer) so-far.takes
+            takes;
         count = length-append so-far.bytes (take count buffer) ∙ omega (arith, so-far.count, length-take count buffer);
         most = room;
         calm = calm ∙ so-far.calm;
@@ -181,7 +183,7 @@ module _ {C S : Type 0} (left : C → Option (List ℕ)) (script_faults : C → 
           record {
             taken = all_bytes;
             written = cut.sends.prefix.0;
-            takes = takes_more (left before) (left now) (left after) so-far.bytes (take count buffer) so-far.takes
+            takes = Consumes-trans (left before) (left now) (left after) so-far.bytes (take count buffer) so-far.takes
                 takes;
             appends = cut.sends.prefix.1;
             script = omega (arith, so-far.calm, calm);
@@ -191,13 +193,13 @@ module _ {C S : Type 0} (left : C → Option (List ℕ)) (script_faults : C → 
           }
 
     -- the end of the script
-    module _ (after : C) (short : taken ≤ max_script) (still : Takes (left now) (left after) [])
+    module _ (after : C) (short : taken ≤ max_script) (still : Consumes (left now) (left after) [])
         (calm : script_faults after ≡ script_faults now) (end : IfSome (left now) (λ bytes. length bytes ≡ 0)) where
       -- it was taken whole
       is_whole : IsWhole left before after so-far.bytes
       is_whole = record {
         short = omega (arith, so-far.count);
-        end = takes_all (left before) (left now) (left after)
+        end = consumes_all (left before) (left now) (left after)
             so-far.bytes so-far.takes still end;
       }
 
@@ -218,7 +220,7 @@ module _ {C S : Type 0} (left : C → Option (List ℕ)) (script_faults : C → 
           record {
             taken = so-far.bytes;
             written = (answers_to start (all_lines (lines_of so-far.bytes))).bytes;
-            takes = takes_still (left before) (left now) (left after) so-far.bytes so-far.takes still;
+            takes = consumes_still (left before) (left now) (left after) so-far.bytes so-far.takes still;
             appends = all.appends;
             script = omega (arith, so-far.calm, calm);
             sink = omega (arith, all.calm);
@@ -237,7 +239,7 @@ module _ {C S : Type 0} (left : C → Option (List ℕ)) (script_faults : C → 
           record {
             taken = so-far.bytes;
             written = cut.sends.prefix.0;
-            takes = takes_still (left before) (left now) (left after) so-far.bytes so-far.takes still;
+            takes = consumes_still (left before) (left now) (left after) so-far.bytes so-far.takes still;
             appends = cut.sends.prefix.1;
             script = omega (arith, so-far.calm, calm);
             sink = cut.sends.counts;

@@ -4,11 +4,11 @@ use Rattle.std.proofs.Common.{arith, length-append}
 use Rattle.std.proofs.lemmas.List.{take-append-le}
 use Rattle.std.proofs.Math.Seq.{take-append-add}
 use Rattle.raw_io.specs.Outside.{Appends}
+use Rattle.raw_io.proofs.Pieces.{appends_nothing, appends_then}
 use Rattle.developer.specs.Answered.{ByCause}
 use Rattle.developer.specs.inner.Writes.{Writes}
 use Rattle.developer.specs.declared.writing.Cause.{Cause}
 use Rattle.developer.specs.declared.writing.Stop.{Stop}
-use Rattle.developer.proofs.Outsides.{appends_nothing, appends_then}
 
 module _ {S : Type 0} (stands_for : S → List ℕ → Type 0) (faults : S → ℕ) where
   -- nothing was written

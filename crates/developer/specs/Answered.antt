@@ -1,7 +1,8 @@
 -- What answering a line promises, beside the answer. This is this project's own.
 use Rattle.std.specs.Prelude.{◌≡◌, ℕ, ◌+◌, ◌≤◌, ◌⊎◌, List, [], ◌∷◌, ◌++◌, length, take, Result, IfErr, OnOk}
 use Rattle.plane_view.specs.declared.Rect.{Rect}
-use Rattle.raw_io.specs.Outside.{Appends, IsPrefixOf, Rises}
+use Rattle.std.specs.Io.{StartsWith}
+use Rattle.raw_io.specs.Outside.{Appends, Rises}
 use Rattle.region_session.specs.Sessions.{Opened as Session}
 use Rattle.dev_stages.specs.declared.stage.DevStage.{DevStage}
 use Rattle.developer.specs.Answers.{Answer}
@@ -26,7 +27,7 @@ ByCause causes.Memory before after = after ≡ before
 -- these bytes of an answer were written before a fault: a prefix, and where a write failed, as many as the fault tells
 abbrev pub IsCutAt : AnswerFault → (written answer : List ℕ) → Type 0
 IsCutAt (Write fault) written answer = (written ≡ take fault.written answer) × (fault.written ≤ length answer)
-IsCutAt Memory written answer = IsPrefixOf written answer
+IsCutAt Memory written answer = StartsWith answer written
 
 -- On Ok the whole answer was appended. After a fault a prefix of it was, and the sink's count of faults rose exactly
 -- where a write failed.

@@ -1,7 +1,8 @@
 -- What a run promises. This is this project's own.
-use Rattle.std.specs.Prelude.{◌≡◌, ℕ, ◌<◌, ◌≤◌, ◌⊎◌, List, [], length, Option, None, Some, IfOk, IfSome, Ok}
+use Rattle.std.specs.Prelude.{◌≡◌, ℕ, ◌<◌, ◌≤◌, ◌⊎◌, List, [], length, Option, None, Some, IfOk, IfSome}
 use Rattle.std.specs.Prelude.{Err, IsOk}
-use Rattle.raw_io.specs.Outside.{IsPrefixOf, Rises}
+use Rattle.std.specs.Io.{StartsWith}
+use Rattle.raw_io.specs.Outside.{Rises}
 use Rattle.developer.specs.Words.{Options, options}
 use Rattle.stage_core.specs.Bases.{raised}
 use Rattle.region_session.specs.Sessions.{Opened as Session, fetched_of, kept_of, ran_of, samples_kept}
@@ -60,7 +61,7 @@ IsOpened call = IfSome (opening call) IsOk
 
 -- a prefix of the bytes that are called for was written
 abbrev pub IsPrefix : Call → Type 0
-IsPrefix call = IfSome (called call) (λ e. IsPrefixOf call.written e.bytes)
+IsPrefix call = IfSome (called call) (λ e. StartsWith e.bytes call.written)
 
 -- a read failed: of the files that are read before the script, or of the script, which is read only of an opened frame
 abbrev pub ReadFailed : Call → Options → Type 0

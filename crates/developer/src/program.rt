@@ -1,7 +1,8 @@
 //! The whole run.
 
 ghost use Rattle.std.specs.Prelude.{◌≡◌, ℕ, List, map, string_bytes};
-ghost use Rattle.raw_io.specs.Outside.{Appends, Takes};
+ghost use Rattle.std.specs.Io.KnownBytes.{Consumes};
+ghost use Rattle.raw_io.specs.Outside.{Appends};
 ghost use Rattle.developer.specs.inner.Closing.{IsClosed};
 ghost use Rattle.developer.specs.Run.{Promises};
 
@@ -28,7 +29,7 @@ pub fn run<F: Files, C: Source, O: Sink>(
 ) -> Status
     ensures { (written taken : List ℕ)
         × Appends O.stands_for out.old out.new written
-        × Takes (C.left script.old) (C.left script.new) taken
+        × Consumes (C.left script.old) (C.left script.new) taken
         × Promises (record {
           words = map string_bytes words.now;
           before = record {

@@ -1,53 +1,36 @@
 -- Several calls one after another: counts that rise, bytes that are taken, contents that are read, and bytes that are
 -- appended.
-use Rattle.std.proofs.Common.{◌≡◌, ℕ, ◌+◌, ◌-◌, ◌<◌, ◌≤◌, List, [], ◌++◌, length, take, drop, Option, Some, None, refl}
-use Rattle.std.proofs.Common.{sym, ◌∙◌, ap, subst, inl, inr, append_assoc, length-take, take-append-drop, min, arith}
+use Rattle.std.proofs.Common.{◌≡◌, ℕ, ◌+◌, ◌-◌, ◌<◌, ◌≤◌, List, [], ◌++◌, length, take, drop, Option, Some, None}
+use Rattle.std.proofs.Common.{sym, ◌∙◌, ap, subst, inl, inr, append_assoc, append-nil, length-take, take-append-drop}
+use Rattle.std.proofs.Common.{min, arith}
+use Rattle.std.specs.Io.KnownBytes.{Consumes}
 use Rattle.std.specs.Option.{IfSome}
+use Rattle.std.proofs.KnownBytes.{Consumes-trans}
 use Rattle.std.proofs.Math.Seq.{take-add}
 use Rattle.std.proofs.lemmas.List.{drop-drop, take_all, take_at, nil_from_length}
-use Rattle.raw_io.specs.Outside.{Rises, Takes, ReadsAt, Appends}
+use Rattle.raw_io.specs.Outside.{Rises, ReadsAt, Appends}
 
+-- a count that rose from here has risen from before, where it is the same
 pub rises_since : (a b c : ℕ) → b ≡ a → Rises b c → Rises a c
 rises_since a b c same r = let P : ℕ → Type 0 = λ n. Rises n c in subst P same r
 
--- nothing was taken
-pub takes_none : (a : Option (List ℕ)) → Takes a a []
-takes_none None = tt
-takes_none (Some l) = (l, refl, refl)
-
--- these were taken, and then those
-pub takes_more : (a b c : Option (List ℕ)) (xs ys : List ℕ) → Takes a b xs → Takes b c ys → Takes a c (xs ++ ys)
-takes_more None b c xs ys first then = tt
-takes_more (Some l) b c xs ys first then =
-    let P : Option (List ℕ) → Type 0 = λ o. Takes o c ys in
-    let rest = subst P first.2 then in
-    (rest.0, first.1 ∙ ap (λ (t : List ℕ). xs ++ t) rest.1 ∙ sym (append_assoc xs ys rest.0), rest.2)
+-- the same bytes, named otherwise
+pub consumes_same : (a b : Option (List ℕ)) (xs ys : List ℕ) → xs ≡ ys → Consumes a b xs → Consumes a b ys
+consumes_same a b xs ys same taken = subst (Consumes a b) same taken
 
 -- these were taken, and then nothing
-pub takes_still : (a b c : Option (List ℕ)) (xs : List ℕ) → Takes a b xs → Takes b c [] → Takes a c xs
-takes_still None b c xs first then = tt
-takes_still (Some l) b c xs first then =
-    let P : Option (List ℕ) → Type 0 = λ o. Takes o c [] in
-    let rest = subst P first.2 then in
-    (rest.0, first.1 ∙ ap (λ (t : List ℕ). xs ++ t) rest.1, rest.2)
-
--- the same bytes, named otherwise
-pub takes_is : (a b : Option (List ℕ)) (xs ys : List ℕ) → xs ≡ ys → Takes a b xs → Takes a b ys
-takes_is a b xs ys same taken = let P : List ℕ → Type 0 = λ l. Takes a b l in subst P same taken
+pub consumes_still : (a b c : Option (List ℕ)) (xs : List ℕ) → Consumes a b xs → Consumes b c [] → Consumes a c xs
+consumes_still a b c xs first then =
+    consumes_same a c (xs ++ []) xs (append-nil xs) (Consumes-trans a b c xs [] first then)
 
 -- nothing was left to take
-takes_rest : (l : List ℕ) (c : Option (List ℕ)) → length l ≡ 0 → Takes (Some l) c [] → c ≡ Some []
-takes_rest l c ends taken =
-    let none : l ≡ [] = nil_from_length l ends in
-    taken.2 ∙ ap (λ (t : List ℕ). Some t) (sym taken.1 ∙ none)
-
-pub takes_all : (a b c : Option (List ℕ)) (xs : List ℕ) → Takes a b xs → Takes b c [] → IfSome b (λ l. length l ≡ 0)
-    → IfSome a (λ _. c ≡ Some [])
-takes_all None b c xs first then ends = tt
-takes_all (Some l) b c xs first then ends =
-    let P : Option (List ℕ) → Type 0 = λ o. Takes o c [] in
-    let Q : Option (List ℕ) → Type 0 = λ o. IfSome o (λ l. length l ≡ 0) in
-    takes_rest first.0 c (subst Q first.2 ends) (subst P first.2 then)
+pub consumes_all : (a b c : Option (List ℕ)) (xs : List ℕ) → Consumes a b xs → Consumes b c []
+    → IfSome b (λ l. length l ≡ 0) → IfSome a (λ _. c ≡ Some [])
+consumes_all None b c xs first then ends = tt
+consumes_all (Some l) None c xs first then ends = absurd first
+consumes_all (Some l) (Some m) None xs first then ends = absurd then
+consumes_all (Some l) (Some m) (Some n) xs first then ends =
+    ap (λ (t : List ℕ). Some t) (sym then ∙ nil_from_length m ends)
 
 -- a read changes no contents, so what it says of them holds of those before an earlier one
 pub reads_told : (now told : Option (List ℕ)) (buffer : List ℕ) (from at n : ℕ) → now ≡ told → from ≡ at
@@ -84,16 +67,30 @@ pub reads_past : (told : Option (List ℕ)) (buffer : List ℕ) (limit at n : �
 reads_past None buffer limit at n within past read = tt
 reads_past (Some l) buffer limit at n within past read = let h : n ≤ length l - at = read.within in omega arith
 
+-- a count that rose last has risen from before
+pub rises_last : (before mid now : ℕ) → before ≤ mid → Rises mid now → Rises before now
+rises_last before mid now h (inl r) = inl (omega arith)
+rises_last before mid now h (inr r) = inr r
+
+-- nothing was appended
+pub appends_nothing : {S : Type 0} (stands_for : S → List ℕ → Type 0) (sink : S) → Appends stands_for sink sink []
+appends_nothing stands_for sink list was = subst (stands_for sink) (sym (append-nil list)) was
+
+-- these bytes were appended, and then those
+pub appends_then : {S : Type 0} (stands_for : S → List ℕ → Type 0) (old mid new : S) (first second : List ℕ)
+    → Appends stands_for old mid first → Appends stands_for mid new second
+    → Appends stands_for old new (first ++ second)
+appends_then stands_for old mid new first second before then list was =
+    subst (stands_for new) (append_assoc list first second) (then (list ++ first) (before list was))
+
 -- the first bytes, and then the next
 pub appends_more : {S : Type 0} (stands_for : S → List ℕ → Type 0) (a b c : S) (bytes rest : List ℕ) (m n : ℕ)
     → rest ≡ drop m bytes → Appends stands_for a b (take m bytes) → Appends stands_for b c (take n rest)
     → Appends stands_for a c (take (m + n) bytes)
-appends_more stands_for a b c bytes rest m n is first then list was =
-    let P : List ℕ → Type 0 = λ t. stands_for c t in
-    let joined : take m bytes ++ take n rest ≡ take (m + n) bytes =
-    ap (λ (t : List ℕ). take m bytes ++ take n t) is ∙ sym (take-add m n bytes) in
-    subst P (append_assoc list (take m bytes) (take n rest) ∙ ap (λ (t : List ℕ). list ++ t) joined)
-    (then (list ++ take m bytes) (first list was))
+appends_more stands_for a b c bytes rest m n is first then =
+    subst (Appends stands_for a c)
+    (ap (λ (t : List ℕ). take m bytes ++ take n t) is ∙ sym (take-add m n bytes))
+    (appends_then stands_for a b c (take m bytes) (take n rest) first then)
 
 -- the bytes that were copied are a prefix of what a source in memory has left
 pub copied_prefix : (bytes left from into old : List ℕ) (taken count : ℕ) → left ≡ drop taken bytes

@@ -6,7 +6,8 @@ use Rattle.std.specs.Option.{option_map, option_map_or, is_none, IfSome}
 use Rattle.std.specs.List.{slice_get}
 use Rattle.std.specs.Str.{bytes_eq}
 use Rattle.std.proofs.lemmas.Slice.Eq.{bytes_eq-Decides}
-use Rattle.std.proofs.lemmas.Bool.{false≢true, cases_lt}
+use Rattle.std.proofs.lemmas.Bool.{cond-true, cond-false, false≢true, cases_lt}
+use Rattle.std.proofs.Math.Bool.{or-true}
 use Rattle.std.proofs.Math.Nat.{le_refl}
 use Rattle.std.proofs.lemmas.List.{take_at, length-take, length-drop, length-append}
 use Rattle.std.proofs.lemmas.List.Folds.{find_at}
@@ -16,12 +17,6 @@ use Rattle.raw_io.specs.Outside.{Rises, ReadsAt}
 use Rattle.raw_io.specs.Memory.{CallNumbers, called, next_fails, one_more, MemoryFile, MemoryFiles, is_named, file_of}
 use Rattle.raw_io.specs.Memory.{with_file, contents_of, faults_of, with_contents, with_fault, files_failed}
 use Rattle.raw_io.specs.inner.Places.{place_of}
-
-cond_true : {A : Type 0} (b : Bool) (x y : A) → b ≡ true → cond b x y ≡ x
-cond_true b x y e = ap (λ (t : Bool). cond t x y) e
-
-cond_false : {A : Type 0} (b : Bool) (x y : A) → b ≡ false → cond b x y ≡ y
-cond_false b x y e = ap (λ (t : Bool). cond t x y) e
 
 pub file_at_place : (name : List ℕ) (files : List MemoryFile) (d : MemoryFile) → place_of name files < length files
     → file_of name files ≡ Some (get_or files (place_of name files) d)
@@ -79,11 +74,11 @@ file_of-with_file other new (file ∷ files) =
     same : bytes_eq file.name new.name ≡ true → (b : Bool) → bytes_eq new.name other ≡ b
         → cond (bytes_eq new.name other) (Some new) (file_of other files)
         ≡ cond (bytes_eq new.name other) (Some new) (cond (bytes_eq file.name other) (Some file) (file_of other files))
-    same e true h = cond_true _ _ _ h ∙ sym (cond_true _ _ _ h)
+    same e true h = cond-true _ _ _ h ∙ sym (cond-true _ _ _ h)
     same e false h =
         let names : file.name ≡ new.name = (bytes_eq-Decides file.name new.name).0 e in
         let apart : bytes_eq file.name other ≡ false = ap (λ (n : List ℕ). bytes_eq n other) names ∙ h in
-        ap (λ (x : Option MemoryFile). cond (bytes_eq new.name other) (Some new) x) (sym (cond_false _ _ _ apart))
+        ap (λ (x : Option MemoryFile). cond (bytes_eq new.name other) (Some new) x) (sym (cond-false _ _ _ apart))
 
     -- the first file has another name, so at most one of the two has that of the look-up
     swap : (b c : Bool) (x y z : Option MemoryFile) → (b ≡ true → c ≡ true → ⊥)
@@ -148,7 +143,7 @@ rises_one n = elim (cases_lt n (2 ^ 64 - 1)) [ inl below ↦ inl (omega arith) |
 file_put : (new : MemoryFile) (files : List MemoryFile) (name : List ℕ) → new.name ≡ name
     → file_of name (with_file new files) ≡ Some new
 file_put new files name same =
-    file_of-with_file name new files ∙ cond_true _ _ _ ((bytes_eq-Decides new.name name).1 same)
+    file_of-with_file name new files ∙ cond-true _ _ _ ((bytes_eq-Decides new.name name).1 same)
 
 abbrev faults_in : Option MemoryFile → ℕ → ℕ
 faults_in o others = option_map_or (λ (f : MemoryFile). f.faults) o others
@@ -233,16 +228,12 @@ pub failed_there : (name : List ℕ) (all new : MemoryFiles) (file : MemoryFile)
     → new ≡ with_fault (Some file) all → new ≡ files_failed name all
 failed_there name all new file e is = is ∙ ap (λ (o : Option MemoryFile). with_fault o all) (sym e)
 
-or_true : (b : Bool) → true ≡ b || true
-or_true true = refl
-or_true false = refl
-
 pub fails_absent : (name : List ℕ) (all : MemoryFiles) → file_of name all.files ≡ None
     → true ≡ next_fails all.calls || is_none (contents_of all name)
 fails_absent name all e =
     let P : Option MemoryFile → Type 0 =
     λ o. true ≡ next_fails all.calls || is_none (option_map (λ (f : MemoryFile). f.bytes) o) in
-    subst P (sym e) (or_true (next_fails all.calls))
+    subst P (sym e) (sym (or-true (next_fails all.calls)))
 
 pub goes_well : (name : List ℕ) (all : MemoryFiles) (file : MemoryFile) → file_of name all.files ≡ Some file
     → false ≡ next_fails all.calls → false ≡ next_fails all.calls || is_none (contents_of all name)

@@ -1,5 +1,6 @@
 -- What the contracts of files, sources and sinks say of bytes and of counts of faults. All of it is this project's own.
-use Rattle.std.specs.Prelude.{◌≡◌, ℕ, ◌-◌, ◌^◌, ◌<◌, ◌≤◌, ◌⊎◌, List, ◌++◌, length, take, drop, Option, None, Some, ⊤}
+use Rattle.std.specs.Prelude.{◌≡◌, ℕ, ◌-◌, ◌^◌, ◌<◌, ◌≤◌, ◌⊎◌, List, ◌++◌, length, take, drop, Option}
+use Rattle.std.specs.Io.KnownBytes.{Consumes}
 
 -- A count of faults rose in a call, or stands at its last value.
 abbrev pub Rises : ℕ → ℕ → Type 0
@@ -9,24 +10,15 @@ Rises before now = (before < now) ⊎ (now ≡ 2 ^ 64 - 1)
 abbrev pub SameCounts : (List ℕ → ℕ) → (List ℕ → ℕ) → Type 0
 SameCounts before now = (name : List ℕ) → now name ≡ before name
 
--- The bytes begin with these.
-abbrev pub IsPrefixOf : List ℕ → List ℕ → Type 0
-IsPrefixOf before bytes = (rest : List ℕ) × (bytes ≡ before ++ rest)
-
 -- A read from an offset put n bytes of the contents at the beginning of the buffer, and 0 only at their end.
 pub record ReadsAt (contents : List ℕ) (at : ℕ) (buffer : List ℕ) (n : ℕ) : Type 0 where
   pub bytes : take n buffer ≡ take n (drop at contents)
   pub within : n ≤ length contents - at
   pub end : n ≡ 0 → length buffer ≡ 0 ⊎ length contents ≤ at
 
--- This prefix of the told bytes was taken, and the rest of them is left. Nothing is claimed of what isn't told.
-abbrev pub Takes : Option (List ℕ) → Option (List ℕ) → List ℕ → Type 0
-Takes None left taken = ⊤
-Takes (Some before) left taken = (rest : List ℕ) × (before ≡ taken ++ rest) × (left ≡ Some rest)
-
 -- A prefix of the told bytes was taken, of no more than this many.
 abbrev pub TakesAtMost : ℕ → Option (List ℕ) → Option (List ℕ) → Type 0
-TakesAtMost most before after = (taken : List ℕ) × Takes before after taken × (length taken ≤ most)
+TakesAtMost most before after = (taken : List ℕ) × Consumes before after taken × (length taken ≤ most)
 
 -- A sink stands for each list that it stood for, followed by these bytes.
 abbrev pub Appends : {S : Type 0} → (S → List ℕ → Type 0) → S → S → List ℕ → Type 0

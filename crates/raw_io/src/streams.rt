@@ -1,9 +1,9 @@
 //! A source over a reader of std, and a sink over a writer. They tell what these tell of their bytes.
 
 ghost use Rattle.std.specs.Prelude.{◌≡◌, ℕ, ◌<◌, ◌≤◌, false, is_err, if◌then◌else◌};
-ghost use Rattle.std.specs.Prelude.{List, [], length, take, Some, IfOk, IsOk, OnErr, IfSome};
-ghost use Rattle.std.specs.Io.KnownBytes.{Keeps, WriteAppends};
-ghost use Rattle.raw_io.specs.Outside.{Takes, Appends};
+ghost use Rattle.std.specs.Prelude.{List, length, take, Some, IfOk, IsOk, OnErr, IfSome};
+ghost use Rattle.std.specs.Io.KnownBytes.{Consumes, Keeps, WriteAppends};
+ghost use Rattle.raw_io.specs.Outside.{Appends};
 ghost use Rattle.raw_io.specs.Memory.{one_more};
 ghost use Rattle.raw_io.specs.Streams.{ReaderSource, WriterSink};
 
@@ -43,10 +43,10 @@ impl<R: Read> Source for StdSource<R> {
     fn read(&mut self, into: &mut [u8]) -> Result<usize, Failed>
         ensures counts { self.old.faults ≤ self.new.faults }
         ensures within { IfOk result (λ n. n ≤ length into.old) }
-        ensures taken { IfOk result (λ n. Takes self.old.left self.new.left (take n into.new)) }
+        ensures taken { IfOk result (λ n. Consumes self.old.left self.new.left (take n into.new)) }
         ensures end { IfOk result (λ n. n ≡ 0 → 0 < length into.old
             → IfSome self.old.left (λ bytes. length bytes ≡ 0)) }
-        ensures kept { OnErr result (Takes self.old.left self.new.left []) }
+        ensures kept { OnErr result (Keeps self.old.left self.new.left) }
         ensures count { self.new.faults ≡ (if is_err result then one_more self.old.faults else self.old.faults) }
     {
         let outcome = read_some(&mut self.input, into);

@@ -1,7 +1,8 @@
 //! What files, sources and sinks are, by what their calls promise.
 
-ghost use Rattle.std.specs.Prelude.{◌≡◌, ℕ, ◌<◌, ◌≤◌, List, [], length, take, Option, IfOk, OnOk, OnErr, IfSome};
-ghost use Rattle.raw_io.specs.Outside.{Rises, SameCounts, ReadsAt, Takes, Appends};
+ghost use Rattle.std.specs.Prelude.{◌≡◌, ℕ, ◌<◌, ◌≤◌, List, length, take, Option, IfOk, OnOk, OnErr, IfSome};
+ghost use Rattle.std.specs.Io.KnownBytes.{Consumes, Keeps};
+ghost use Rattle.raw_io.specs.Outside.{Rises, SameCounts, ReadsAt, Appends};
 
 use std::error::Error;
 use std::fmt;
@@ -59,10 +60,10 @@ pub trait Source {
         ensures counts { faults self.old ≤ faults self.new }
         ensures no_fault { OnOk result (faults self.new ≡ faults self.old) }
         ensures within { IfOk result (λ n. n ≤ length into.old) }
-        ensures taken { IfOk result (λ n. Takes (left self.old) (left self.new) (take n into.new)) }
+        ensures taken { IfOk result (λ n. Consumes (left self.old) (left self.new) (take n into.new)) }
         ensures end { IfOk result (λ n. n ≡ 0 → 0 < length into.old
             → IfSome (left self.old) (λ bytes. length bytes ≡ 0)) }
-        ensures kept { OnErr result (Takes (left self.old) (left self.new) []) }
+        ensures kept { OnErr result (Keeps (left self.old) (left self.new)) }
         ensures failed { OnErr result (Rises (faults self.old) (faults self.new)) };
 }
 

@@ -2,7 +2,8 @@
 
 ghost use Rattle.std.specs.Prelude.{◌≡◌, ℕ, ◌+◌, ◌^◌, ◌<◌, ◌≤◌, List, [], length, take, Some, vec_len};
 ghost use Rattle.std.specs.Prelude.{IfOk, IfErr, OnOk, OnErr, IfSome, IsErrOf};
-ghost use Rattle.raw_io.specs.Outside.{Rises, SameCounts, Takes, TakesAtMost, Appends};
+ghost use Rattle.std.specs.Io.KnownBytes.{Consumes};
+ghost use Rattle.raw_io.specs.Outside.{Rises, SameCounts, TakesAtMost, Appends};
 
 use crate::{Failed, Files, Sink, Source};
 use std::alloc::{AllocError, Global};
@@ -128,15 +129,15 @@ pub fn read_source<C: Source>(
     requires small { limit < 2 ^ 60 }
     ensures counts { C.faults source.old ≤ C.faults source.new }
     ensures no_fault { OnOk result (C.faults source.new ≡ C.faults source.old) }
-    ensures taken { OnOk result (Takes (C.left source.old) (C.left source.new) into.new.items) }
+    ensures taken { OnOk result (Consumes (C.left source.old) (C.left source.new) into.new.items) }
     ensures within { OnOk result (vec_len into.new ≤ limit) }
     ensures end { OnOk result (IfSome (C.left source.old) (λ _. C.left source.new ≡ Some [])) }
     ensures too_long { IsErrOf result ReadFault.TooLong
-        → Takes (C.left source.old) (C.left source.new) into.new.items × (vec_len into.new ≡ limit + 1) }
+        → Consumes (C.left source.old) (C.left source.new) into.new.items × (vec_len into.new ≡ limit + 1) }
     ensures too_long_no_fault { IsErrOf result ReadFault.TooLong → C.faults source.new ≡ C.faults source.old }
     ensures memory_no_fault { IsErrOf result ReadFault.Memory → C.faults source.new ≡ C.faults source.old }
     ensures failed { IsErrOf result ReadFault.Failed
-        → Takes (C.left source.old) (C.left source.new) into.new.items × (vec_len into.new ≤ limit) }
+        → Consumes (C.left source.old) (C.left source.new) into.new.items × (vec_len into.new ≤ limit) }
     ensures rises { IsErrOf result ReadFault.Failed → Rises (C.faults source.old) (C.faults source.new) }
     ensures memory { IsErrOf result ReadFault.Memory
         → TakesAtMost (limit + 1) (C.left source.old) (C.left source.new) }
@@ -195,15 +196,15 @@ fn take_into<C: Source>(
     requires small { limit < 2 ^ 60 }
     ensures counts { C.faults source.old ≤ C.faults source.new }
     ensures no_fault { OnOk result (C.faults source.new ≡ C.faults source.old) }
-    ensures taken { OnOk result (Takes (C.left source.old) (C.left source.new) into.new.items) }
+    ensures taken { OnOk result (Consumes (C.left source.old) (C.left source.new) into.new.items) }
     ensures within { OnOk result (vec_len into.new ≤ limit) }
     ensures end { OnOk result (IfSome (C.left source.old) (λ _. C.left source.new ≡ Some [])) }
     ensures too_long { IsErrOf result ReadFault.TooLong
-        → Takes (C.left source.old) (C.left source.new) into.new.items × (vec_len into.new ≡ limit + 1) }
+        → Consumes (C.left source.old) (C.left source.new) into.new.items × (vec_len into.new ≡ limit + 1) }
     ensures too_long_no_fault { IsErrOf result ReadFault.TooLong → C.faults source.new ≡ C.faults source.old }
     ensures memory_no_fault { IsErrOf result ReadFault.Memory → C.faults source.new ≡ C.faults source.old }
     ensures failed { IsErrOf result ReadFault.Failed
-        → Takes (C.left source.old) (C.left source.new) into.new.items × (vec_len into.new ≤ limit) }
+        → Consumes (C.left source.old) (C.left source.new) into.new.items × (vec_len into.new ≤ limit) }
     ensures rises { IsErrOf result ReadFault.Failed → Rises (C.faults source.old) (C.faults source.new) }
     ensures memory { IsErrOf result ReadFault.Memory
         → TakesAtMost (limit + 1) (C.left source.old) (C.left source.new) }

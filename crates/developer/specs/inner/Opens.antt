@@ -1,7 +1,8 @@
 -- Definitions for the contracts between functions of this crate: what opening a frame promises, before the script. This
 -- is this project's own.
 use Rattle.std.specs.Prelude.{◌≡◌, ℕ, ◌≤◌, ◌⊎◌, List, Option, None, Some, IfSome, Result, Ok, Err, ⊤}
-use Rattle.raw_io.specs.Outside.{Appends, IsPrefixOf, Rises}
+use Rattle.std.specs.Io.{StartsWith}
+use Rattle.raw_io.specs.Outside.{Appends, Rises}
 use Rattle.raw_io.specs.declared.whole.ReadFault.{ReadFault}
 use Rattle.raw_io.specs.declared.whole.ReadFault.TheVariants as reads
 use Rattle.tag_rules.specs.declared.faults.FrameFault.{FrameFault}
@@ -67,7 +68,7 @@ pub record Refuses {S : Type 0} (stands_for : S → List ℕ → Type 0) (faults
     (ending result : Ending) : Type 0 where
   pub written : List ℕ
   pub appended : Appends stands_for old new written
-  pub prefix : IsPrefixOf written line
+  pub prefix : StartsWith line written
   pub counts : faults old ≤ faults new
   pub outcome : ((result ≡ ending) × (written ≡ line))
       ⊎ ((result ≡ endings.WriteFault) × Rises (faults old) (faults new))

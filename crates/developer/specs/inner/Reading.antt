@@ -2,7 +2,9 @@
 -- this project's own.
 use Rattle.std.specs.Prelude.{◌≡◌, ℕ, ◌+◌, ◌≤◌, ◌⊎◌, List, [], length, take, Option, Some, IfSome, Result, Ok, Err}
 use Rattle.std.specs.Prelude.{IfErr, OnErr, OnOk}
-use Rattle.raw_io.specs.Outside.{Appends, IsPrefixOf, Rises, Takes}
+use Rattle.std.specs.Io.{StartsWith}
+use Rattle.std.specs.Io.KnownBytes.{Consumes}
+use Rattle.raw_io.specs.Outside.{Appends, Rises}
 use Rattle.dev_settings.specs.Lines.{all_lines, lines_of}
 use Rattle.developer.specs.Answered.{ByCause}
 use Rattle.developer.specs.Answers.{Answer}
@@ -21,7 +23,7 @@ kept_of line = take 4097 line
 pub record Sends {S T : Type 0} (stands_for : S → List ℕ → Type 0) (faults : S → ℕ) (old new : S) (answers : List ℕ)
     (result : Result T Cause) : Type 0 where
   pub whole : OnOk result (Appends stands_for old new answers)
-  pub prefix : OnErr result ((written : List ℕ) × Appends stands_for old new written × IsPrefixOf written answers)
+  pub prefix : OnErr result ((written : List ℕ) × Appends stands_for old new written × StartsWith answers written)
   pub calm : OnOk result (faults new ≡ faults old)
   pub counts : faults old ≤ faults new
   pub cause : IfErr result (λ cause. ByCause cause (faults old) (faults new))
@@ -50,8 +52,8 @@ abbrev pub IsPrefixOfAnswers : {C : Type 0} (left : C → Option (List ℕ)) (be
     → (taken written : List ℕ)
     → Type 0
 IsPrefixOfAnswers left before after start taken written =
-    IsPrefixOf written (complete_answers start taken).bytes
-    ⊎ (IsWhole left before after taken × IsPrefixOf written (whole_answers start taken).bytes)
+    StartsWith (complete_answers start taken).bytes written
+    ⊎ (IsWhole left before after taken × StartsWith (whole_answers start taken).bytes written)
 
 -- how reading ended: what was taken, what was written, and what is in force then
 abbrev pub Outcome : {C S : Type 0} (left : C → Option (List ℕ)) (script_faults : C → ℕ) (sink_faults : S → ℕ)
@@ -78,7 +80,7 @@ pub record Reads {C S T : Type 0} (left : C → Option (List ℕ)) (script_fault
     (state : InForce) (result : Result T Ending) : Type 0 where
   pub taken : List ℕ
   pub written : List ℕ
-  pub takes : Takes (left before) (left after) taken
+  pub takes : Consumes (left before) (left after) taken
   pub appends : Appends stands_for first now written
   pub script : script_faults before ≤ script_faults after
   pub sink : sink_faults first ≤ sink_faults now

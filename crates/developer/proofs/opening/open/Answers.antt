@@ -2,7 +2,7 @@ use Rattle.std.proofs.Common.{[], inl, refl, sym, ◌∙◌, ap, arith, map, str
 use Rattle.developer.specs.Run.{Call}
 use Rattle.developer.specs.inner.Shown.{options_view}
 use Rattle.developer.proofs.Endings.{nothing_answered, nothing_prefix}
-use Rattle.developer.proofs.Outsides.{appends_nothing}
+use Rattle.raw_io.proofs.Pieces.{appends_nothing}
 use Rattle.developer.proofs.opening.open.Goals as goal
 
 pub returns-in-Err-clause-ended : goal.returns-in-Err-clause-ended

@@ -1,6 +1,6 @@
 use Rattle.std.proofs.Common.{[], refl, arith, map, string_bytes}
 use Rattle.developer.proofs.Endings.{frame_promises, refused_promises}
-use Rattle.raw_io.proofs.Pieces.{takes_none}
+use Rattle.std.proofs.KnownBytes.{Consumes-nil}
 use Rattle.developer.proofs.program.run.Goals as goal
 
 pub returns-in-Ok : goal.returns-in-Ok
@@ -28,7 +28,7 @@ returns g c =
       r.0,
       [],
       r.1,
-      takes_none (g.C.Source.left c.args.script.now),
+      Consumes-nil (g.C.Source.left c.args.script.now),
       refused_promises _ _ c.in-Err.ending c.status.ensures refl refl
           (record {
             told = c.in-Err.ensures.told;

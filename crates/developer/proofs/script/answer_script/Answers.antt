@@ -2,7 +2,7 @@ use Rattle.std.proofs.Common.{◌≡◌, ℕ, ◌+◌, ◌-◌, ◌<◌, ◌≤�
 use Rattle.std.proofs.lemmas.List.{take-append-le}
 use Rattle.std.proofs.lemmas.Result.{err_from_is_err_and}
 use Rattle.developer.specs.Transcript.{max_script}
-use Rattle.raw_io.proofs.Pieces.{takes_is}
+use Rattle.raw_io.proofs.Pieces.{consumes_same}
 use Rattle.developer.proofs.ScriptLines.{rest_unended}
 use Rattle.developer.proofs.Scripts.{prefix_of, script_end, script_end_stops, script_failed, script_long, script_none}
 use Rattle.developer.proofs.Scripts.{script_piece, script_piece_stops}
@@ -31,7 +31,7 @@ returns-in_err-answer_rest g c =
     let so-far = c.loop-taken.invariant in
     let none : take c.in_ok-count.count c.read.new.into ≡ [] =
     ap (λ (n : ℕ). take n c.read.new.into) c.if-count-eq0.true in
-    let still = takes_is _ _ _ _ none c.in_ok-count.ensures.taken in
+    let still = consumes_same _ _ _ _ none c.in_ok-count.ensures.taken in
     let asked : 0 < length (take c.min-room.result c.loop-taken.piece) =
     omega (
       arith,
@@ -56,7 +56,7 @@ returns-then-count-eq0 g c =
     let so-far = c.loop-taken.invariant in
     let none : take c.in_ok-count.count c.read.new.into ≡ [] =
     ap (λ (n : ℕ). take n c.read.new.into) c.if-count-eq0.true in
-    let still = takes_is _ _ _ _ none c.in_ok-count.ensures.taken in
+    let still = consumes_same _ _ _ _ none c.in_ok-count.ensures.taken in
     let asked : 0 < length (take c.min-room.result c.loop-taken.piece) =
     omega (
       arith,

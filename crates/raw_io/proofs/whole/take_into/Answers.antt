@@ -1,13 +1,14 @@
 use Rattle.std.proofs.Common.{◌≡◌, ℕ, ◌+◌, ◌<◌, ◌≤◌, [], ◌++◌, take, length, refl, sym, ◌∙◌, ap, arith, length-take}
 use Rattle.std.proofs.Common.{length-append, vec_len}
-use Rattle.raw_io.proofs.Pieces.{rises_since, takes_none, takes_more, takes_still, takes_all, takes_is}
+use Rattle.std.proofs.KnownBytes.{Consumes-kept, Consumes-nil, Consumes-trans}
+use Rattle.raw_io.proofs.Pieces.{rises_since, consumes_still, consumes_all, consumes_same}
 use Rattle.raw_io.proofs.whole.take_into.Goals as goal
 
 pub loop-count-init : goal.loop-count-init
 loop-count-init g c = record {
   within = omega (arith, c.args.into.now.ok.0, ap length c.requires.empty);
   no_fault = refl;
-  taken = takes_is _ _ _ _ (sym c.requires.empty) (takes_none (g.C.Source.left c.args.source.now));
+  taken = consumes_same _ _ _ _ (sym c.requires.empty) (Consumes-nil (g.C.Source.left c.args.source.now));
 }
 
 pub returns-in_err-count-clause-rises : goal.returns-in_err-count-clause-rises
@@ -16,14 +17,14 @@ returns-in_err-count-clause-rises g c =
 
 pub returns-in_err-count-clause-failed : goal.returns-in_err-count-clause-failed
 returns-in_err-count-clause-failed g c = λ _.
-    (takes_still _ _ _ _ c.loop-count.invariant.taken c.in_err-count.ensures.kept, c.loop-count.invariant.within)
+    (Consumes-kept _ _ _ _ c.loop-count.invariant.taken c.in_err-count.ensures.kept, c.loop-count.invariant.within)
 
 pub returns-then-count-eq0-clause-taken : goal.returns-then-count-eq0-clause-taken
 returns-then-count-eq0-clause-taken g c =
     let none : take c.in_ok-count.count c.read.new.into ≡ [] =
     ap (λ (n : ℕ). take n c.read.new.into) c.if-count-eq0.true in
-    takes_still _ _ _ c.loop-count.into.items c.loop-count.invariant.taken
-    (takes_is _ _ _ _ none c.in_ok-count.ensures.taken)
+    consumes_still _ _ _ c.loop-count.into.items c.loop-count.invariant.taken
+    (consumes_same _ _ _ _ none c.in_ok-count.ensures.taken)
 
 pub returns-then-count-eq0-clause-end : goal.returns-then-count-eq0-clause-end
 returns-then-count-eq0-clause-end g c =
@@ -39,8 +40,8 @@ returns-then-count-eq0-clause-end g c =
       c.requires.some,
       length-take c.piece_len-most.result c.loop-count.buffer,
     ) in
-    takes_all _ _ _ c.loop-count.into.items c.loop-count.invariant.taken
-    (takes_is _ _ _ _ none c.in_ok-count.ensures.taken) (c.in_ok-count.ensures.end c.if-count-eq0.true asked)
+    consumes_all _ _ _ c.loop-count.into.items c.loop-count.invariant.taken
+    (consumes_same _ _ _ _ none c.in_ok-count.ensures.taken) (c.in_ok-count.ensures.end c.if-count-eq0.true asked)
 
 pub returns-in_err-extend_from_slice-clause-memory : goal.returns-in_err-extend_from_slice-clause-memory
 returns-in_err-extend_from_slice-clause-memory g c = λ _.
@@ -60,7 +61,7 @@ returns-in_err-extend_from_slice-clause-memory g c = λ _.
       c.len.ensures,
       length-take c.piece_len-most.result c.loop-count.buffer,
     ) in
-    let taken = takes_more _ _ _ _ _ c.loop-count.invariant.taken c.in_ok-count.ensures.taken in (
+    let taken = Consumes-trans _ _ _ _ _ c.loop-count.invariant.taken c.in_ok-count.ensures.taken in (
       c.loop-count.into.items ++ take c.in_ok-count.count c.read.new.into,
       taken,
       omega (
@@ -90,8 +91,8 @@ returns-then-len-limit-clause-too_long g c = λ _.
       c.len.ensures,
       length-take c.piece_len-most.result c.loop-count.buffer,
     ) in
-    let taken = takes_more _ _ _ _ _ c.loop-count.invariant.taken c.in_ok-count.ensures.taken in (
-      takes_is _ _ _ _ (sym c.in_ok-extend_from_slice.ensures.items) taken,
+    let taken = Consumes-trans _ _ _ _ _ c.loop-count.invariant.taken c.in_ok-count.ensures.taken in (
+      consumes_same _ _ _ _ (sym c.in_ok-extend_from_slice.ensures.items) taken,
       omega (
         arith,
         pushed,
@@ -120,11 +121,11 @@ loop-count-preserved g c =
       c.len.ensures,
       length-take c.piece_len-most.result c.loop-count.buffer,
     ) in
-    let taken = takes_more _ _ _ _ _ c.loop-count.invariant.taken c.in_ok-count.ensures.taken in
+    let taken = Consumes-trans _ _ _ _ _ c.loop-count.invariant.taken c.in_ok-count.ensures.taken in
     record {
       within = omega (arith, c.len-in-loop-count.ensures, c.if-len-limit.false);
       no_fault = c.in_ok-count.ensures.no_fault ∙ c.loop-count.invariant.no_fault;
-      taken = takes_is _ _ _ _ (sym c.in_ok-extend_from_slice.ensures.items) taken;
+      taken = consumes_same _ _ _ _ (sym c.in_ok-extend_from_slice.ensures.items) taken;
     }
 
 pub returns-then-count-eq0-clause-no_fault : goal.returns-then-count-eq0-clause-no_fault
