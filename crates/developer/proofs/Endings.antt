@@ -31,7 +31,6 @@ use Rattle.developer.specs.declared.status.Status.TheVariants.{ScriptTooLong}
 use Rattle.developer.specs.declared.status.Status.TheVariants as statuses
 use Rattle.developer.proofs.Answering.{answers_prefix}
 use Rattle.std.proofs.lemmas.Option.{IfSome_then}
-use Rattle.developer.proofs.Outsides.{if_some_all}
 use Rattle.developer.proofs.ScriptLines.{take_both}
 
 -- a script that isn't too long
@@ -124,6 +123,11 @@ whole_prefix now script left taken written t end short within =
     IfSome_then (by_told_script now script) {P = λ e. e ≡ by_answers (whole_answers now taken) Done}
     {Q = λ e. StartsWith e.bytes written} (calls_done now script left taken t end short)
     (λ e is. subst (λ (t : Transcript). StartsWith t.bytes written) (sym is) within)
+
+-- what holds of each value holds of the value, if there is one
+if_some_all : {T : Type 0} (o : Option T) (P : T → Type 0) → ((x : T) → P x) → IfSome o P
+if_some_all None P f = tt
+if_some_all (Some x) P f = f x
 
 -- nothing is a prefix of what is called for
 pub nothing_prefix : (call : Call) → call.written ≡ [] → IsPrefix call

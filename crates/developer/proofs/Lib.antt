@@ -5,7 +5,6 @@ mod Chaining
 mod Endings
 mod Images
 mod Openings
-mod Outsides
 mod Scripts
 mod ScriptLines
 mod Readings

@@ -1,9 +1,8 @@
 -- A script of which some bytes were taken and the complete lines answered, and what its reading promises then.
 use Rattle.std.proofs.Common.{◌≡◌, ℕ, ◌+◌, ◌-◌, ◌<◌, ◌≤◌, inl, inr, List, [], ◌++◌, length, take, Option, Ok, Err, refl}
 use Rattle.std.proofs.Common.{sym, ◌∙◌, ap, length-append, length-take, arith}
-use Rattle.std.specs.Prelude.{IfSome}
 use Rattle.std.proofs.lemmas.List.{append-nil, take_all}
-use Rattle.std.specs.Io.KnownBytes.{Consumes, Keeps}
+use Rattle.std.specs.Io.KnownBytes.{Consumes, IsAtEnd, Keeps}
 use Rattle.std.proofs.KnownBytes.{Consumes-kept, Consumes-nil, Consumes-trans}
 use Rattle.raw_io.specs.Outside.{Rises}
 use Rattle.dev_settings.specs.Lines.{Lines, all_lines, last_line, lines_of}
@@ -16,7 +15,7 @@ use Rattle.developer.specs.Answered.{ByCause}
 use Rattle.developer.specs.declared.status.Ending.TheVariants as endings
 use Rattle.developer.specs.declared.writing.Cause.{Cause}
 use Rattle.developer.specs.declared.writing.Cause.TheVariants as causes
-use Rattle.raw_io.proofs.Pieces.{appends_nothing, consumes_all, consumes_still, rises_since}
+use Rattle.raw_io.proofs.Pieces.{appends_nothing, consumes_all, consumes_still, rises_last}
 use Rattle.developer.proofs.Readings.{HaveAnswers, have_more, have_none, have_same, have_stop}
 use Rattle.developer.proofs.ScriptLines.{take_piece}
 
@@ -102,8 +101,8 @@ module _ {C S : Type 0} (left : C → Option (List ℕ)) (script_faults : C → 
       sink = omega (arith, so-far.have.calm);
       outcome = (
         omega (arith, so-far.count),
-        rises_since (script_faults before) (script_faults now)
-            (script_faults after) so-far.calm rises,
+        rises_last (script_faults before) (script_faults now) (script_faults after) (omega (arith, so-far.calm))
+            rises,
         refl,
         so-far.have.reached,
       );
@@ -194,7 +193,7 @@ module _ {C S : Type 0} (left : C → Option (List ℕ)) (script_faults : C → 
 
     -- the end of the script
     module _ (after : C) (short : taken ≤ max_script) (still : Consumes (left now) (left after) [])
-        (calm : script_faults after ≡ script_faults now) (end : IfSome (left now) (λ bytes. length bytes ≡ 0)) where
+        (calm : script_faults after ≡ script_faults now) (end : IsAtEnd (left now)) where
       -- it was taken whole
       is_whole : IsWhole left before after so-far.bytes
       is_whole = record {

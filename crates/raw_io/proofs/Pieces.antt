@@ -3,16 +3,17 @@
 use Rattle.std.proofs.Common.{◌≡◌, ℕ, ◌+◌, ◌-◌, ◌<◌, ◌≤◌, List, [], ◌++◌, length, take, drop, Option, Some, None}
 use Rattle.std.proofs.Common.{sym, ◌∙◌, ap, subst, inl, inr, append_assoc, append-nil, length-take, take-append-drop}
 use Rattle.std.proofs.Common.{min, arith}
-use Rattle.std.specs.Io.KnownBytes.{Consumes}
+use Rattle.std.specs.Io.KnownBytes.{Consumes, IsAtEnd}
 use Rattle.std.specs.Option.{IfSome}
 use Rattle.std.proofs.KnownBytes.{Consumes-trans}
 use Rattle.std.proofs.Math.Seq.{take-add}
-use Rattle.std.proofs.lemmas.List.{drop-drop, take_all, take_at, nil_from_length}
+use Rattle.std.proofs.lemmas.List.{drop-drop, take_all, take_at}
 use Rattle.raw_io.specs.Outside.{Rises, ReadsAt, Appends}
 
--- a count that rose from here has risen from before, where it is the same
-pub rises_since : (a b c : ℕ) → b ≡ a → Rises b c → Rises a c
-rises_since a b c same r = let P : ℕ → Type 0 = λ n. Rises n c in subst P same r
+-- a count that rose last has risen from before
+pub rises_last : (before mid now : ℕ) → before ≤ mid → Rises mid now → Rises before now
+rises_last before mid now h (inl r) = inl (omega arith)
+rises_last before mid now h (inr r) = inr r
 
 -- the same bytes, named otherwise
 pub consumes_same : (a b : Option (List ℕ)) (xs ys : List ℕ) → xs ≡ ys → Consumes a b xs → Consumes a b ys
@@ -25,12 +26,12 @@ consumes_still a b c xs first then =
 
 -- nothing was left to take
 pub consumes_all : (a b c : Option (List ℕ)) (xs : List ℕ) → Consumes a b xs → Consumes b c []
-    → IfSome b (λ l. length l ≡ 0) → IfSome a (λ _. c ≡ Some [])
+    → IsAtEnd b → IfSome a (λ _. c ≡ Some [])
 consumes_all None b c xs first then ends = tt
 consumes_all (Some l) None c xs first then ends = absurd first
 consumes_all (Some l) (Some m) None xs first then ends = absurd then
 consumes_all (Some l) (Some m) (Some n) xs first then ends =
-    ap (λ (t : List ℕ). Some t) (sym then ∙ nil_from_length m ends)
+    ap (λ (t : List ℕ). Some t) (sym then ∙ ends)
 
 -- a read changes no contents, so what it says of them holds of those before an earlier one
 pub reads_told : (now told : Option (List ℕ)) (buffer : List ℕ) (from at n : ℕ) → now ≡ told → from ≡ at
@@ -66,11 +67,6 @@ pub reads_past : (told : Option (List ℕ)) (buffer : List ℕ) (limit at n : �
     → IfSome told (λ l. ReadsAt l at buffer n) → IfSome told (λ l. limit < length l)
 reads_past None buffer limit at n within past read = tt
 reads_past (Some l) buffer limit at n within past read = let h : n ≤ length l - at = read.within in omega arith
-
--- a count that rose last has risen from before
-pub rises_last : (before mid now : ℕ) → before ≤ mid → Rises mid now → Rises before now
-rises_last before mid now h (inl r) = inl (omega arith)
-rises_last before mid now h (inr r) = inr r
 
 -- nothing was appended
 pub appends_nothing : {S : Type 0} (stands_for : S → List ℕ → Type 0) (sink : S) → Appends stands_for sink sink []

@@ -1,8 +1,8 @@
 //! Sources and sinks in memory, whose calls fail where they are told to.
 
 ghost use Rattle.std.specs.Prelude.{◌≡◌, ℕ, ◌+◌, ◌^◌, ◌<◌, ◌≤◌, ◌||◌, nat_lt, min, List, [], ◌∷◌, ◌++◌, length, take};
-ghost use Rattle.std.specs.Prelude.{drop, Some, IfOk, OnOk, OnErr, IfSome, is_err};
-ghost use Rattle.std.specs.Io.KnownBytes.{Consumes, Keeps};
+ghost use Rattle.std.specs.Prelude.{drop, Some, IfOk, OnOk, OnErr, is_err};
+ghost use Rattle.std.specs.Io.KnownBytes.{Consumes, IsAtEnd, Keeps};
 ghost use Rattle.raw_io.specs.Outside.{Rises, Appends};
 ghost use Rattle.raw_io.specs.Memory.{CallNumbers, called, next_fails, with_failing, no_calls, MemorySource};
 ghost use Rattle.raw_io.specs.Memory.{source_after, source_failed, MemorySink, sink_after, sink_failed};
@@ -115,8 +115,7 @@ impl Source for MemSource {
         ensures counts { self.old.faults ≤ self.new.faults }
         ensures within { IfOk result (λ n. n ≤ length into.old) }
         ensures taken { IfOk result (λ n. Consumes (Some self.old.left) (Some self.new.left) (take n into.new)) }
-        ensures end { IfOk result (λ n. n ≡ 0 → 0 < length into.old
-            → IfSome (Some self.old.left) (λ bytes. length bytes ≡ 0)) }
+        ensures end { IfOk result (λ n. n ≡ 0 → 0 < length into.old → IsAtEnd (Some self.old.left)) }
         ensures kept { OnErr result (Keeps (Some self.old.left) (Some self.new.left)) }
         ensures failed { OnErr result (Rises self.old.faults self.new.faults) }
         ensures fails { is_err result ≡ next_fails self.old.calls }

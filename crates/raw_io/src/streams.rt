@@ -1,8 +1,8 @@
 //! A source over a reader of std, and a sink over a writer. They tell what these tell of their bytes.
 
 ghost use Rattle.std.specs.Prelude.{◌≡◌, ℕ, ◌<◌, ◌≤◌, false, is_err, if◌then◌else◌};
-ghost use Rattle.std.specs.Prelude.{List, length, take, Some, IfOk, IsOk, OnErr, IfSome};
-ghost use Rattle.std.specs.Io.KnownBytes.{Consumes, Keeps, WriteAppends};
+ghost use Rattle.std.specs.Prelude.{List, length, take, Some, IfOk, IsOk, OnErr};
+ghost use Rattle.std.specs.Io.KnownBytes.{Consumes, IsAtEnd, Keeps, WriteAppends};
 ghost use Rattle.raw_io.specs.Outside.{Appends};
 ghost use Rattle.raw_io.specs.Memory.{one_more};
 ghost use Rattle.raw_io.specs.Streams.{ReaderSource, WriterSink};
@@ -44,8 +44,7 @@ impl<R: Read> Source for StdSource<R> {
         ensures counts { self.old.faults ≤ self.new.faults }
         ensures within { IfOk result (λ n. n ≤ length into.old) }
         ensures taken { IfOk result (λ n. Consumes self.old.left self.new.left (take n into.new)) }
-        ensures end { IfOk result (λ n. n ≡ 0 → 0 < length into.old
-            → IfSome self.old.left (λ bytes. length bytes ≡ 0)) }
+        ensures end { IfOk result (λ n. n ≡ 0 → 0 < length into.old → IsAtEnd self.old.left) }
         ensures kept { OnErr result (Keeps self.old.left self.new.left) }
         ensures count { self.new.faults ≡ (if is_err result then one_more self.old.faults else self.old.faults) }
     {

@@ -1,7 +1,7 @@
 //! What files, sources and sinks are, by what their calls promise.
 
 ghost use Rattle.std.specs.Prelude.{◌≡◌, ℕ, ◌<◌, ◌≤◌, List, length, take, Option, IfOk, OnOk, OnErr, IfSome};
-ghost use Rattle.std.specs.Io.KnownBytes.{Consumes, Keeps};
+ghost use Rattle.std.specs.Io.KnownBytes.{Consumes, IsAtEnd, Keeps};
 ghost use Rattle.raw_io.specs.Outside.{Rises, SameCounts, ReadsAt, Appends};
 
 use std::error::Error;
@@ -61,8 +61,7 @@ pub trait Source {
         ensures no_fault { OnOk result (faults self.new ≡ faults self.old) }
         ensures within { IfOk result (λ n. n ≤ length into.old) }
         ensures taken { IfOk result (λ n. Consumes (left self.old) (left self.new) (take n into.new)) }
-        ensures end { IfOk result (λ n. n ≡ 0 → 0 < length into.old
-            → IfSome (left self.old) (λ bytes. length bytes ≡ 0)) }
+        ensures end { IfOk result (λ n. n ≡ 0 → 0 < length into.old → IsAtEnd (left self.old)) }
         ensures kept { OnErr result (Keeps (left self.old) (left self.new)) }
         ensures failed { OnErr result (Rises (faults self.old) (faults self.new)) };
 }

@@ -1,5 +1,5 @@
 use Rattle.std.proofs.Common.{◌≡◌, take, length, refl, ◌∙◌, ap, arith, length-take, vec_len}
-use Rattle.raw_io.proofs.Pieces.{rises_since, prefix_none, prefix_more, prefix_all, reads_past, reads_told}
+use Rattle.raw_io.proofs.Pieces.{rises_last, prefix_none, prefix_more, prefix_all, reads_past, reads_told}
 use Rattle.raw_io.proofs.whole.read_into.Goals as goal
 
 pub loop-count-init : goal.loop-count-init
@@ -22,7 +22,7 @@ returns-in_err-count-clause-counts g c =
 
 pub returns-in_err-count-clause-failed : goal.returns-in_err-count-clause-failed
 returns-in_err-count-clause-failed g c =
-    λ _. rises_since _ _ _ (c.loop-count.invariant.no_fault c.args.name.now) c.in_err-count.ensures.failed
+    λ _. rises_last _ _ _ (omega (arith, c.loop-count.invariant.no_fault c.args.name.now)) c.in_err-count.ensures.failed
 
 pub returns-then-count-eq0-clause-contents : goal.returns-then-count-eq0-clause-contents
 returns-then-count-eq0-clause-contents g c =

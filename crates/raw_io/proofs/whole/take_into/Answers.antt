@@ -1,7 +1,7 @@
 use Rattle.std.proofs.Common.{◌≡◌, ℕ, ◌+◌, ◌<◌, ◌≤◌, [], ◌++◌, take, length, refl, sym, ◌∙◌, ap, arith, length-take}
 use Rattle.std.proofs.Common.{length-append, vec_len}
 use Rattle.std.proofs.KnownBytes.{Consumes-kept, Consumes-nil, Consumes-trans}
-use Rattle.raw_io.proofs.Pieces.{rises_since, consumes_still, consumes_all, consumes_same}
+use Rattle.raw_io.proofs.Pieces.{rises_last, consumes_still, consumes_all, consumes_same}
 use Rattle.raw_io.proofs.whole.take_into.Goals as goal
 
 pub loop-count-init : goal.loop-count-init
@@ -13,7 +13,7 @@ loop-count-init g c = record {
 
 pub returns-in_err-count-clause-rises : goal.returns-in_err-count-clause-rises
 returns-in_err-count-clause-rises g c =
-    λ _. rises_since _ _ _ c.loop-count.invariant.no_fault c.in_err-count.ensures.failed
+    λ _. rises_last _ _ _ (omega (arith, c.loop-count.invariant.no_fault)) c.in_err-count.ensures.failed
 
 pub returns-in_err-count-clause-failed : goal.returns-in_err-count-clause-failed
 returns-in_err-count-clause-failed g c = λ _.
