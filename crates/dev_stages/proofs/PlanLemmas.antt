@@ -9,11 +9,12 @@ use Rattle.std.proofs.lemmas.List.FromFn.{fill_by_all}
 use Rattle.stage_chain.specs.Chains.{TakeInTurn}
 use Rattle.opcode_list.specs.Trims.{IsPartOf, left_after}
 use Rattle.dng_tags.specs.Facts.{IsPlannable}
-use Rattle.dng_tags.specs.Listed.{after_list1, after_list2, area_shape, coloured_shape}
+use Rattle.dng_tags.specs.Listed.{after_list1, after_list2, area_shape}
 use Rattle.dng_tags.specs.declared.record.Frame.{Frame}
 use Rattle.tone_table.specs.declared.Curve.{Curve}
 use Rattle.tone_table.specs.Tones.{IsTableOf, toned_at}
 use Rattle.dev_settings.specs.declared.settings.Settings.{Settings}
+use Rattle.plane_view.specs.Plane.{coloured}
 use Rattle.plane_view.specs.Rectangles.{height, width}
 use Rattle.opcode_stages.specs.Crops.{cropped_shape}
 use Rattle.linearise.specs.Parameters.{Parameters, parameters}
@@ -64,14 +65,14 @@ small_area frame is =
 
 -- the stages from the second crop on, from the one behind list 2 on, and from the first crop on
 takes_last : (frame : Frame) (settings : Settings) (matrix : List ℤ) → IsPlannable frame
-    → TakeInTurn takes_of shaped_of (last_stages frame settings matrix) (coloured_shape (after_list2 frame))
+    → TakeInTurn takes_of shaped_of (last_stages frame settings matrix) (coloured (after_list2 frame))
 takes_last frame settings matrix is =
-    listed_then 3 0 frame.list3 (coloured_shape (after_list2 frame)) (behind_list3 frame settings matrix) is.list3
+    listed_then 3 0 frame.list3 (coloured (after_list2 frame)) (behind_list3 frame settings matrix) is.list3
     (λ low. absurd (omega (arith, low))) is.fit3
     (record { some = is.crop_some; inside = is.crop }, (colours, (colours, (colours, tt))))
   where
-    colours : (left_after frame.list3 (coloured_shape (after_list2 frame))).planes ≡ 3
-    colours = planes_left frame.list3 (coloured_shape (after_list2 frame))
+    colours : (left_after frame.list3 (coloured (after_list2 frame))).planes ≡ 3
+    colours = planes_left frame.list3 (coloured (after_list2 frame))
 
 takes_middle : (frame : Frame) (settings : Settings) (matrix : List ℤ) → IsPlannable frame
     → TakeInTurn takes_of shaped_of (middle_stages frame settings matrix) (area_shape frame.active)

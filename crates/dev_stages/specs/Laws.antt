@@ -2,7 +2,7 @@
 use Rattle.std.proofs.Common.{◌≡◌, true}
 use Rattle.plane_view.specs.declared.Rect.{Rect}
 use Rattle.plane_view.specs.declared.Shape.{Shape}
-use Rattle.plane_view.specs.Plane.{Plane}
+use Rattle.plane_view.specs.Plane.{Plane, coloured}
 use Rattle.plane_view.specs.Rectangles.{grown, shifted, whole_rect}
 use Rattle.plane_view.specs.Shapes.{IsShape}
 use Rattle.stage_core.specs.Planes.{IsPart, IsPlane}
@@ -21,7 +21,7 @@ use Rattle.linearise.specs.Parameters.{linear_of}
 use Rattle.malvar.specs.Demosaic.{demosaiced_at, reach_of, table_of}
 use Rattle.malvar.specs.Equal.{same_mosaics}
 use Rattle.malvar.specs.Laws.{coloured_is_shape, needed_is_part, reads_near}
-use Rattle.malvar.specs.Mosaics.{cfa_of, coloured}
+use Rattle.malvar.specs.Mosaics.{cfa_of}
 use Rattle.colour_matrix.specs.Balances.{balanced_at}
 use Rattle.colour_matrix.specs.Equal.{same_balances, same_matrices}
 use Rattle.colour_matrix.specs.Laws.{balanced_rests, matrixed_rests}

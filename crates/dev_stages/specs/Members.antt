@@ -3,7 +3,7 @@
 use Rattle.std.specs.Prelude.{⊤, ◌≡◌}
 use Rattle.plane_view.specs.declared.Rect.{Rect}
 use Rattle.plane_view.specs.declared.Shape.{Shape}
-use Rattle.plane_view.specs.Plane.{Plane, crop}
+use Rattle.plane_view.specs.Plane.{Plane, coloured, crop}
 use Rattle.plane_view.specs.Rectangles.{grown, shifted, whole_rect}
 use Rattle.stage_core.specs.Planes.{IsPart}
 use Rattle.opcode_stages.specs.Crops.{cropped_shape}
@@ -11,7 +11,7 @@ use Rattle.opcode_stages.specs.Maps.{mapped}
 use Rattle.opcode_stages.specs.Mends.{equals, is_listed, mended}
 use Rattle.linearise.specs.Parameters.{IsArea, linear_plane}
 use Rattle.malvar.specs.Demosaic.{demosaiced, reach_of, table_of}
-use Rattle.malvar.specs.Mosaics.{IsMosaic, cfa_of, coloured}
+use Rattle.malvar.specs.Mosaics.{IsMosaic, cfa_of}
 use Rattle.colour_matrix.specs.Balances.{balanced}
 use Rattle.colour_matrix.specs.Matrices.{matrixed}
 use Rattle.tone_table.specs.Tones.{toned}

@@ -1,11 +1,12 @@
 -- What holds of the record of each frame that is read. The limits are this project's own.
 use Rattle.std.specs.Prelude.{◌≡◌, ℕ, ◌+◌, ◌*◌, ◌^◌, ◌<◌, ◌≤◌, ℤ, pos, ◌<ℤ◌, ◌⊎◌, All, List, length, slice_get}
 use Rattle.std.specs.Prelude.{slice_index, Option, None, Some, IfSome}
+use Rattle.plane_view.specs.Plane.{coloured}
 use Rattle.plane_view.specs.Rectangles.{HasPixel, IsNonEmpty, LiesIn, height, whole_rect, width}
 use Rattle.plane_view.specs.declared.Shape.{Shape}
 use Rattle.tiff_dirs.specs.Header.{order_of}
 use Rattle.dng_tags.specs.Black.{span_of}
-use Rattle.dng_tags.specs.Listed.{after_list1, after_list2, after_list3, area_shape, coloured_shape}
+use Rattle.dng_tags.specs.Listed.{after_list1, after_list2, after_list3, area_shape}
 use Rattle.dng_tags.specs.Pattern.{patterns}
 use Rattle.opcode_list.specs.Params.{CanRunIn}
 use Rattle.opcode_list.specs.Trims.{first_misfit}
@@ -102,7 +103,7 @@ pub record IsPlannable (frame : Frame) : Type 0 where
   pub cols : 4 ≤ (after_list2 frame).cols
   pub list3 : All (CanRunIn 3) frame.list3
   pub few3 : length frame.list3 ≤ 16
-  pub fit3 : first_misfit 0 frame.list3 (coloured_shape (after_list2 frame)) ≡ None
+  pub fit3 : first_misfit 0 frame.list3 (coloured (after_list2 frame)) ≡ None
   pub crop_some : IsNonEmpty frame.crop
   pub crop : LiesIn frame.crop (whole_rect (after_list3 frame).rows (after_list3 frame).cols)
   pub colour : AreColours frame.colour

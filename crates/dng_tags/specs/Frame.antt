@@ -10,7 +10,8 @@ use Rattle.dng_tags.specs.Black.{levels_of}
 use Rattle.dng_tags.specs.Colours.{colour_of}
 use Rattle.dng_tags.specs.Form.{form_of}
 use Rattle.dng_tags.specs.Layout.{segments_of}
-use Rattle.dng_tags.specs.Listed.{area_shape, coloured_shape, listed_of}
+use Rattle.plane_view.specs.Plane.{coloured}
+use Rattle.dng_tags.specs.Listed.{area_shape, listed_of}
 use Rattle.dng_tags.specs.Origin.{origin_of, tiff_of}
 use Rattle.dng_tags.specs.Pattern.{pattern_of}
 use Rattle.dng_tags.specs.declared.record.Frame.{Frame}
@@ -26,7 +27,7 @@ record_of dirs =
     and_then (levels_of dirs form.depth active) (λ levels.
     and_then (listed_of dirs 2 (area_shape active)) (λ second.
     and_then (large_enough second.left) (λ _.
-    and_then (listed_of dirs 3 (coloured_shape second.left)) (λ third.
+    and_then (listed_of dirs 3 (coloured second.left)) (λ third.
     and_then (crop_of dirs third.left.rows third.left.cols) (λ crop.
     and_then (colour_of dirs) (λ colour.
     Ok (record {

@@ -1,6 +1,7 @@
 -- The groups of the opcode lists (DNG 1.6, chapter 4, "OpcodeList1", "OpcodeList2", "OpcodeList3"): the opcodes of a
 -- list, and the plane that its trims leave.
 use Rattle.std.specs.Prelude.{ℕ, List, Result, Ok, Err}
+use Rattle.plane_view.specs.Plane.{coloured}
 use Rattle.plane_view.specs.Rectangles.{height, width}
 use Rattle.plane_view.specs.declared.Rect.{Rect}
 use Rattle.plane_view.specs.declared.Shape.{Shape}
@@ -17,10 +18,6 @@ use Rattle.dng_tags.specs.declared.record.Frame.{Frame}
 -- the shape of the active area: one plane
 abbrev pub area_shape : Rect → Shape
 area_shape active = record { rows = height active; cols = width active; planes = 1 }
-
--- a shape of as many rows and columns with three planes
-abbrev pub coloured_shape : Shape → Shape
-coloured_shape shape = record { rows = shape.rows; cols = shape.cols; planes = 3 }
 
 -- opcodes with the plane that they leave, or the first trim that doesn't lie in the plane that it finds
 abbrev pub with_trims : ℕ → List Opcode → Result Shape ℕ → Result Listed FrameFault
@@ -42,4 +39,4 @@ after_list2 frame = left_after frame.list2 (area_shape frame.active)
 
 -- the shape that list 3 leaves of the demosaiced plane
 abbrev pub after_list3 : Frame → Shape
-after_list3 frame = left_after frame.list3 (coloured_shape (after_list2 frame))
+after_list3 frame = left_after frame.list3 (coloured (after_list2 frame))

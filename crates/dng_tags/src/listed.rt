@@ -3,9 +3,10 @@
 ghost use Rattle.std.specs.Prelude.{◌≡◌, ◌≤◌, None, All, IfOk, length};
 ghost use Rattle.opcode_list.specs.Params.{CanRunIn};
 ghost use Rattle.opcode_list.specs.Trims.{IsPartOf, first_misfit, left_after};
+ghost use Rattle.plane_view.specs.Plane.{coloured};
 ghost use Rattle.plane_view.specs.Rectangles.{IsNonEmpty};
 ghost use Rattle.tag_rules.specs.Answers.{Answers};
-ghost use Rattle.dng_tags.specs.Listed.{area_shape, coloured_shape, listed_of};
+ghost use Rattle.dng_tags.specs.Listed.{area_shape, listed_of};
 
 use lists::Items;
 use opcode_list::{Opcode, trimmed};
@@ -64,7 +65,7 @@ pub fn area_shape(active: Rect) -> Shape
 
 /// A plane with three colours.
 pub fn coloured_shape(shape: Shape) -> Shape
-    ensures { result ≡ coloured_shape shape }
+    ensures { result ≡ coloured shape }
 {
     Shape { planes: 3, ..shape }
 }

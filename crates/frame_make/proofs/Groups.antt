@@ -6,6 +6,7 @@ use Rattle.std.specs.List.{range_with_len}
 use Rattle.std.proofs.lemmas.Bool.{le-leb, le-ltb, lt-ltb}
 use Rattle.std.proofs.lemmas.Int.{clamps, ints}
 use Rattle.std.proofs.lemmas.Nat.{div-mul-add}
+use Rattle.plane_view.specs.Plane.{coloured}
 use Rattle.plane_view.specs.Rectangles.{whole_rect}
 use Rattle.plane_view.specs.declared.Rect.{Rect}
 use Rattle.plane_view.specs.declared.Shape.{Shape}
@@ -32,7 +33,7 @@ use Rattle.dng_tags.specs.Form.{shape_of, side_of}
 use Rattle.dng_tags.specs.Frame.{frame_of, record_of}
 use Rattle.dng_tags.specs.Layout.{checked_layout, layout_of, parts, rect_at, segment_at, segment_count, segments_in}
 use Rattle.dng_tags.specs.Layout.{segments_of, strip_rows_of, strips_of}
-use Rattle.dng_tags.specs.Listed.{area_shape, coloured_shape, listed_of}
+use Rattle.dng_tags.specs.Listed.{area_shape, listed_of}
 use Rattle.dng_tags.specs.Origin.{needed_version_of, origin_of, raw_directory_of, subfile_type_at, tiff_of, version_of}
 use Rattle.dng_tags.specs.Pattern.{colours_of, has_plane_colours, has_rectangular_layout, pattern_of, pattern_size_of}
 use Rattle.dng_tags.specs.declared.area.Extent.{Extent}
@@ -347,7 +348,7 @@ module _ {bytes : List ℕ} {w h bits method count : ℕ} (e : HasEntries bytes 
         whole,
         second_list shape,
         large,
-        third_list (coloured_shape shape),
+        third_list (coloured shape),
         crop,
         colour,
         e.order,

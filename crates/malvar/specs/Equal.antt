@@ -1,6 +1,7 @@
 -- When stages of demosaicing are equal, and that such are alike: this project's own.
 use Rattle.std.specs.Prelude.{nat_eq, if◌then◌else◌, slice_index}
 use Rattle.std.proofs.Common.{◌≡◌, ℕ, List, true, refl, ap, subst, sym, ◌∙◌, Decides, rules}
+use Rattle.plane_view.specs.Plane.{coloured}
 use Rattle.plane_view.specs.Rectangles.{grown, whole_rect}
 use Rattle.stage_core.specs.Stages.{AreAlike}
 use Rattle.malvar.specs.declared.stage.Demosaic.{Demosaic}
@@ -10,7 +11,7 @@ use Rattle.malvar.specs.declared.pattern.Pattern.TheVariants.{GreenBlueRedGreen}
 use Rattle.malvar.specs.contracts.stage.DemosaicPartialEq.TheImpl.{ghosts}
 use Rattle.malvar.specs.declared.Kind.{Kind}
 use Rattle.malvar.specs.Demosaic.{table_of, reach_of, demosaiced}
-use Rattle.malvar.specs.Mosaics.{IsMosaic, coloured, colours_of, kind_of, cfa_of}
+use Rattle.malvar.specs.Mosaics.{IsMosaic, colours_of, kind_of, cfa_of}
 
 -- the pattern of some colours
 with_colours : List ℕ → Pattern

@@ -2,6 +2,7 @@
 use Rattle.std.proofs.Common.{ℕ, ◌+◌, List, sym, ◌∙◌, ap, arith}
 use Rattle.plane_view.specs.declared.Rect.{Rect}
 use Rattle.plane_view.specs.declared.Shape.{Shape}
+use Rattle.plane_view.specs.Plane.{coloured}
 use Rattle.plane_view.specs.Rectangles.{grown, whole_rect}
 use Rattle.plane_view.specs.Shapes.{IsShape}
 use Rattle.stage_core.specs.Planes.{IsPart}
@@ -10,7 +11,7 @@ use Rattle.malvar.specs.Pattern.{colour_at}
 use Rattle.malvar.specs.declared.Kind.{Kind}
 use Rattle.malvar.specs.Demosaic.{table_of, reach_of, demosaiced_at}
 use Rattle.malvar.specs.inner.Around.{sample_by}
-use Rattle.malvar.specs.Mosaics.{IsMosaic, coloured}
+use Rattle.malvar.specs.Mosaics.{IsMosaic}
 use Rattle.malvar.specs.inner.AroundLaws.{sample_is, around_rests, reaches}
 
 -- the shape of a demosaiced plane is a shape

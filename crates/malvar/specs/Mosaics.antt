@@ -13,10 +13,6 @@ pub record IsMosaic (s : Shape) : Type 0 where
   pub rows : 4 ≤ s.rows
   pub cols : 4 ≤ s.cols
 
--- the shape of the demosaiced plane
-abbrev pub coloured : Shape → Shape
-coloured s = record { rows = s.rows; cols = s.cols; planes = 3 }
-
 -- the colours of a pattern
 abbrev pub colours_of : Pattern → List ℕ
 colours_of RedGreenGreenBlue = 0 ∷ 1 ∷ 1 ∷ 2 ∷ []

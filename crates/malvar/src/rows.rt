@@ -2,12 +2,13 @@
 
 ghost use Rattle.std.specs.Prelude.{◌≡◌, ◌+◌, ◌-◌, ◌*◌, ◌%◌, ◌≤◌, length};
 ghost use Rattle.plane_view.specs.Lent.{HasRow, sample_at};
+ghost use Rattle.plane_view.specs.Plane.{coloured};
 ghost use Rattle.plane_view.specs.Rectangles.{LiesIn, grown, whole_rect, width};
 ghost use Rattle.plane_view.specs.Rows.{IsRowOf};
 ghost use Rattle.plane_view.specs.Shapes.{IsShape};
 ghost use Rattle.stage_core.specs.Planes.{IsPart};
 ghost use Rattle.malvar.specs.Demosaic.{demosaiced_at, table_of, reach_of};
-ghost use Rattle.malvar.specs.Mosaics.{IsMosaic, coloured, colours_of};
+ghost use Rattle.malvar.specs.Mosaics.{IsMosaic, colours_of};
 ghost use Rattle.malvar.specs.inner.Around.{even_site, odd_site};
 ghost use Rattle.malvar.specs.inner.Rows.{HasColumns, SameBelow, Spans, with_pixel};
 

@@ -1,10 +1,11 @@
 //! Demosaicing as a stage.
 
 ghost use Rattle.std.specs.Prelude.{◌≡◌};
+ghost use Rattle.plane_view.specs.Plane.{coloured};
 ghost use Rattle.plane_view.specs.Rectangles.{grown, whole_rect};
 ghost use Rattle.malvar.specs.Pattern.{IsBayer};
 ghost use Rattle.malvar.specs.Demosaic.{demosaiced, table_of, reach_of};
-ghost use Rattle.malvar.specs.Mosaics.{IsMosaic, coloured};
+ghost use Rattle.malvar.specs.Mosaics.{IsMosaic};
 
 use crate::Kind;
 use crate::pattern::Pattern;

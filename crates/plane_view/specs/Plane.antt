@@ -3,6 +3,7 @@
 use Rattle.std.specs.Prelude.{◌≡◌, ℕ, ◌+◌, ◌-◌, ◌*◌, ◌/◌, ◌%◌, List, length, map, slice_index}
 use Rattle.std.specs.List.{range_with_len}
 use Rattle.plane_view.specs.declared.Rect.{Rect}
+use Rattle.plane_view.specs.declared.Shape.{Shape}
 
 -- rows, columns, the number of planes, and the samples
 pub record Plane : Type 0 where
@@ -38,3 +39,7 @@ abbrev pub crop : Plane → Rect → Plane
 crop P rect =
     plane_of (rect.bottom - rect.top) (rect.right - rect.left) P.planes
     (λ r c p. sample P (rect.top + r) (rect.left + c) p)
+
+-- the shape of a plane of red, green and blue, of as many rows and columns
+abbrev pub coloured : Shape → Shape
+coloured s = record { rows = s.rows; cols = s.cols; planes = 3 }

@@ -1,11 +1,12 @@
 use Rattle.std.proofs.Common.{rules, subst, sym}
 use Rattle.plane_view.specs.declared.Rect.{Rect}
+use Rattle.plane_view.specs.Plane.{coloured}
 use Rattle.plane_view.specs.Rectangles.{grown, whole_rect}
 use Rattle.plane_view.specs.Rows.{IsRowOf}
 use Rattle.plane_view.specs.Lent.{sample_at}
 use Rattle.stage_core.proofs.Formulas.{made_by}
 use Rattle.malvar.specs.Demosaic.{demosaiced_at, table_of, reach_of}
-use Rattle.malvar.specs.Mosaics.{coloured, cfa_of}
+use Rattle.malvar.specs.Mosaics.{cfa_of}
 use Rattle.malvar.specs.Laws.{reads_near}
 use Rattle.malvar.proofs.stage.DemosaicStage.run.Goals as goal
 
