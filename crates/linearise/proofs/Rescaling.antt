@@ -9,8 +9,8 @@ use Rattle.std.proofs.lemmas.Int.{ints}
 use Rattle.std.proofs.lemmas.Nat.{div-add-mod', div-mul-add, div_below, le-div, mod_below, mul-le, pow-add, shr-shr}
 use Rattle.std.proofs.lemmas.Nat.{shr_split}
 use Rattle.linearise.specs.Linear.{rescaled}
-use Rattle.plane_view.specs.Samples.{clipped}
-use Rattle.linearise.specs.inner.Scales.{IsFactor, IsScale, held_of, part_of}
+use Rattle.plane_view.specs.Samples.{clipped, held_within}
+use Rattle.linearise.specs.inner.Scales.{IsFactor, IsScale, part_of}
 
 -- a common factor of two sides goes away
 cancel : (k a b : ℕ) → 1 ≤ k → k * a < k * b + k → a ≤ b
@@ -98,7 +98,7 @@ clips_low (pos a) d some below =
 clips_low (negsuc n) d some below = refl
 
 -- the part of a level that is held within 0 and the span
-pub rescaled_is : (span : ℕ) (above : ℤ) → 1 ≤ span → rescaled (pos span) above ≡ part_of span (held_of span above)
+pub rescaled_is : (span : ℕ) (above : ℤ) → 1 ≤ span → rescaled (pos span) above ≡ part_of span (held_within span above)
 unfolding rescaled
 rescaled_is span (pos x) some =
     elim (cases_lt span x) [

@@ -1,8 +1,9 @@
 //! Levels above black as parts of 65535.
 
 ghost use Rattle.std.specs.Prelude.{◌≡◌, ◌+◌, ◌*◌, ◌^◌, ◌<◌, ◌≤◌, pos, IsTrue};
+ghost use Rattle.plane_view.specs.Samples.{held_within};
 ghost use Rattle.linearise.specs.Linear.{rescaled};
-ghost use Rattle.linearise.specs.inner.Scales.{IsFactor, IsScale, held_of, part_of};
+ghost use Rattle.linearise.specs.inner.Scales.{IsFactor, IsScale, part_of};
 
 /// The white level above the greatest black in 256ths, and what stands for dividing by it.
 ///
@@ -109,7 +110,7 @@ impl Scale {
 #[inline(always)]
 fn held(above: i32, span: u32) -> u32
     requires { span < 2 ^ 29 }
-    ensures held { result ≡ held_of span above }
+    ensures held { result ≡ held_within span above }
     ensures within { result ≤ span }
 {
     above.max(0).min(span as i32) as u32

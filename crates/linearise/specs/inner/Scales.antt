@@ -1,5 +1,5 @@
 -- Multiplying in place of dividing: this project's own.
-use Rattle.std.specs.Prelude.{◌≡◌, ℕ, ◌+◌, ◌*◌, ◌/◌, ◌^◌, ◌<◌, ◌≤◌, min, ℤ, pos, negsuc}
+use Rattle.std.specs.Prelude.{◌≡◌, ℕ, ◌+◌, ◌*◌, ◌/◌, ◌^◌, ◌<◌, ◌≤◌}
 
 -- a whole number from 65535 * 2 * half / span up to one more; the scale takes the next greater one
 pub record IsFactor (span half factor : ℕ) : Type 0 where
@@ -15,11 +15,6 @@ pub record IsScale (span high low half shift : ℕ) : Type 0 where
   pub half_most : half ≤ 2 ^ 58
   pub wide : span * span < half
   pub factor : IsFactor span half (high * 2 ^ 32 + low)
-
--- a level above black, held within 0 and the span
-abbrev pub held_of : ℕ → ℤ → ℕ
-held_of span (pos x) = min x span
-held_of span (negsuc n) = 0
 
 -- the quotient that a level within the span stands for
 abbrev pub part_of : (span x : ℕ) → ℕ
