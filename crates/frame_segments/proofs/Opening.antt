@@ -52,20 +52,22 @@ cells_of_parts shape segments parts =
     record {
       some = omega (arith, parts.some);
       most = omega (arith, parts.most);
-      part = λ k rect at.
-          let found = segment_of_cell segments k rect at in
-          let segment = found.0 in
-          let is = parts.part k segment found.1 in
-          subst (λ (r : Rect). IsPart r shape) found.2 (record { some = is.some; inside = is.inside });
-      covered = λ r c hr hc.
-          let found = parts.covered r c hr hc in
-          any_at (has_pixel r c) (rects_of segments) found.0 found.1.rect
-          (cell_of_segment segments found.0 found.1 found.2) (has_pixel-true r c found.1.rect found.3);
-      apart = λ i k one other ati atk r c in_one in_other.
-          let a = segment_of_cell segments i one ati in
-          let b = segment_of_cell segments k other atk in
-          parts.apart i k a.0 b.0 a.1 b.1 r c (subst (λ (x : Rect). HasPixel x r c) (sym a.2) in_one)
-          (subst (λ (x : Rect). HasPixel x r c) (sym b.2) in_other);
+      plane = record {
+        part = λ k rect at.
+            let found = segment_of_cell segments k rect at in
+            let segment = found.0 in
+            let is = parts.part k segment found.1 in
+            subst (λ (r : Rect). IsPart r shape) found.2 (record { some = is.some; inside = is.inside });
+        covered = λ r c hr hc.
+            let found = parts.covered r c hr hc in
+            any_at (has_pixel r c) (rects_of segments) found.0 found.1.rect
+            (cell_of_segment segments found.0 found.1 found.2) (has_pixel-true r c found.1.rect found.3);
+        apart = λ i k one other ati atk r c in_one in_other.
+            let a = segment_of_cell segments i one ati in
+            let b = segment_of_cell segments k other atk in
+            parts.apart i k a.0 b.0 a.1 b.1 r c (subst (λ (x : Rect). HasPixel x r c) (sym a.2) in_one)
+            (subst (λ (x : Rect). HasPixel x r c) (sym b.2) in_other);
+      };
     }
 
 -- the segment that is fetched for a cell
@@ -133,11 +135,11 @@ fetched_agrees bytes coding shape segments buffer coded held k segment rect L op
   planes = sym one;
   samples = λ r c p pixel hp.
       let here : HasPixel segment.rect r c = subst (λ (x : Rect). HasPixel x r c) (sym found.rect_is) pixel in
-      let part = opened.cells.part k segment.rect (cell_of_segment segments k segment found.at) in
+      let part = opened.cells.plane.part k segment.rect (cell_of_segment segments k segment found.at) in
       let raw : raw_sample bytes coding segments r c
       ≡ slice_index (coded_samples bytes coding segment) (coded_place segment r c) =
       raw_sample-at bytes coding segments k segment r c
-      (λ i j a b ati atj ina inb. opened.cells.apart i j a.rect b.rect (cell_of_segment segments i a ati)
+      (λ i j a b ati atj ina inb. opened.cells.plane.apart i j a.rect b.rect (cell_of_segment segments i a ati)
       (cell_of_segment segments j b atj) r c ina inb)
       found.at here in
       get_or-samples_of shape.rows shape.cols 1 (λ r c p. raw_sample bytes coding segments r c) r c p

@@ -9,9 +9,10 @@ use Rattle.plane_view.specs.Plane.{Plane}
 use Rattle.plane_view.specs.Rectangles.{HasPixel, LiesIn, has_pixel}
 use Rattle.plane_view.specs.Lent.{Lent}
 use Rattle.plane_view.proofs.Pixels.{pixel_of_test}
+use Rattle.stage_core.specs.Bases.{MakeUp}
 use Rattle.stage_core.specs.Planes.{IsPart}
 use Rattle.stage_core.proofs.CellLemmas.{one_of_any}
-use Rattle.stage_deps.specs.Cells.{MakeUp, cell_at, cells_at, meeting, no_rect}
+use Rattle.stage_deps.specs.Cells.{cell_at, cells_at, meeting, no_rect}
 use Rattle.stage_deps.proofs.Coverage.{meeting_among, meeting_bounds, meets_one_pixel}
 use Rattle.region_session.specs.inner.Parts.{IsFilled, Shows}
 

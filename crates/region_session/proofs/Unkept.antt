@@ -12,8 +12,9 @@ use Rattle.plane_view.specs.declared.Rect.{Rect}
 use Rattle.plane_view.specs.declared.Shape.{Shape}
 use Rattle.plane_view.specs.Rectangles.{height, width}
 use Rattle.plane_view.specs.Shapes.{IsShape}
+use Rattle.stage_core.specs.Bases.{MakeUp}
 use Rattle.stage_core.specs.Planes.{IsPart}
-use Rattle.stage_deps.specs.Cells.{MakeUp, cell_at, meeting, no_rect}
+use Rattle.stage_deps.specs.Cells.{cell_at, meeting, no_rect}
 use Rattle.stage_deps.specs.Grids.{grid_cells}
 use Rattle.stage_deps.proofs.GridCells.{grid_makes_up}
 use Rattle.kept_cells.specs.Held.{Held, fresh, missing}

@@ -17,19 +17,21 @@ pub one_cell : (s : Shape) → IsShape s → AreCells (whole_rect s.rows s.cols 
 one_cell s is = record {
   some = omega arith;
   most = omega arith;
-  part = λ k rect at. subst (λ (x : Rect). IsPart x s) (only (whole_rect s.rows s.cols) rect k at).1 (record {
-    some = record { rows = is.some_rows; cols = is.some_cols };
-    inside = record { top = omega arith; bottom = omega arith; left = omega arith; right = omega arith };
-  });
-  covered = λ r c row col. rw
-      (has_pixel-true r c (whole_rect s.rows s.cols) (record {
-        top = omega arith;
-        bottom = row;
-        left = omega arith;
-        right = col;
-      })) refl;
-  apart = λ i k one other at_i at_k r c in_one in_other.
-      let first = only (whole_rect s.rows s.cols) one i at_i in
-      let second = only (whole_rect s.rows s.cols) other k at_k in
-      omega (arith, first.0, second.0);
+  plane = record {
+    part = λ k rect at. subst (λ (x : Rect). IsPart x s) (only (whole_rect s.rows s.cols) rect k at).1 (record {
+      some = record { rows = is.some_rows; cols = is.some_cols };
+      inside = record { top = omega arith; bottom = omega arith; left = omega arith; right = omega arith };
+    });
+    covered = λ r c row col. rw
+        (has_pixel-true r c (whole_rect s.rows s.cols) (record {
+          top = omega arith;
+          bottom = row;
+          left = omega arith;
+          right = col;
+        })) refl;
+    apart = λ i k one other at_i at_k r c in_one in_other.
+        let first = only (whole_rect s.rows s.cols) one i at_i in
+        let second = only (whole_rect s.rows s.cols) other k at_k in
+        omega (arith, first.0, second.0);
+  };
 }

@@ -35,5 +35,5 @@ one_of_any p (y ∷ ys) any =
 pub cell_of_pixel : (cells : List Rect) (s : Shape) (r c : ℕ) → AreCells cells s → r < s.rows → c < s.cols → (k : ℕ)
     × (rect : Rect) × (slice_get cells k ≡ Some rect) × HasPixel rect r c
 cell_of_pixel cells s r c are hr hc =
-    let found = one_of_any (has_pixel r c) cells (are.covered r c hr hc) in
+    let found = one_of_any (has_pixel r c) cells (are.plane.covered r c hr hc) in
     (found.0, found.1, found.2, pixel_of_test r c found.1 found.3)

@@ -37,7 +37,7 @@ fetched_none P cells t = record {
 not_here : (cells : List Rect) (s : Shape) (i k : ℕ) (one cell : Rect) (r c : ℕ) → AreCells cells s → i < k
     → slice_get cells i ≡ Some one → slice_get cells k ≡ Some cell → HasPixel one r c → HasPixel cell r c → ⊥
 not_here cells s i k one cell r c are below at here has also =
-    let same : i ≡ k = are.apart i k one cell at here r c has also in
+    let same : i ≡ k = are.plane.apart i k one cell at here r c has also in
     omega arith
 
 -- one cell more
@@ -78,7 +78,7 @@ fetched_more P cells s first old moved new k cell are plane whole planes so-far 
     within : (i : ℕ) (one : Rect) → slice_get cells i ≡ Some one → (r c : ℕ) → HasPixel one r c
         → HasPixel (whole_rect P.rows P.cols) r c
     within i one at r c has =
-        let part = are.part i one at in
+        let part = are.plane.part i one at in
         let rows : P.rows ≡ s.rows = plane.shape.rows in
         let cols : P.cols ≡ s.cols = plane.shape.cols in
         record {
@@ -138,7 +138,7 @@ pub record FetchedSo {B : Type 0} (plane : B → Plane) (cells_of : B → List R
 pub cell_inside : (P : Plane) (cells : List Rect) (s : Shape) (k : ℕ) (cell whole : Rect) → AreCells cells s
     → IsPlane P s → whole ≡ whole_rect P.rows P.cols → slice_get cells k ≡ Some cell → LiesIn cell whole
 cell_inside P cells s k cell whole are plane is at =
-    let part = are.part k cell at in
+    let part = are.plane.part k cell at in
     let rows : P.rows ≡ s.rows = plane.shape.rows in
     let cols : P.cols ≡ s.cols = plane.shape.cols in
     subst (λ (R : Rect). LiesIn cell R) (sym is)

@@ -36,23 +36,25 @@ pixels_are_cells n some few =
     record {
       some = omega arith;
       most = omega arith;
-      part = λ k rect e.
-          let is = pixel_is n k rect e in
-          let P : Rect → Type 0 = λ r. IsPart r (record { rows = 1; cols = n; planes = 1 }) in
-          let within : k < n = is.0 in
-          subst P is.1 (record {
-            some = record { rows = omega arith; cols = omega arith };
-            inside = record { top = omega arith; bottom = omega arith; left = omega arith; right = omega arith };
-          });
-      covered = λ r c hr hc. any_at (has_pixel r c) (pixels n) c (pixel c) (pixel_at n c (omega arith))
-          (has_pixel-true r c (pixel c) (record {
-            top = omega arith;
-            bottom = hr;
-            left = omega arith;
-            right = omega arith;
-          }));
-      apart = λ i k one other ei ek r c in_one in_other.
-          let a = subst (λ (x : Rect). HasPixel x r c) (sym (pixel_is n i one ei).1) in_one in
-          let b = subst (λ (x : Rect). HasPixel x r c) (sym (pixel_is n k other ek).1) in_other in
-          omega (arith, a.left, a.right, b.left, b.right);
+      plane = record {
+        part = λ k rect e.
+            let is = pixel_is n k rect e in
+            let P : Rect → Type 0 = λ r. IsPart r (record { rows = 1; cols = n; planes = 1 }) in
+            let within : k < n = is.0 in
+            subst P is.1 (record {
+              some = record { rows = omega arith; cols = omega arith };
+              inside = record { top = omega arith; bottom = omega arith; left = omega arith; right = omega arith };
+            });
+        covered = λ r c hr hc. any_at (has_pixel r c) (pixels n) c (pixel c) (pixel_at n c (omega arith))
+            (has_pixel-true r c (pixel c) (record {
+              top = omega arith;
+              bottom = hr;
+              left = omega arith;
+              right = omega arith;
+            }));
+        apart = λ i k one other ei ek r c in_one in_other.
+            let a = subst (λ (x : Rect). HasPixel x r c) (sym (pixel_is n i one ei).1) in_one in
+            let b = subst (λ (x : Rect). HasPixel x r c) (sym (pixel_is n k other ek).1) in_other in
+            omega (arith, a.left, a.right, b.left, b.right);
+      };
     }

@@ -6,14 +6,18 @@ use Rattle.plane_view.specs.declared.Shape.{Shape}
 use Rattle.plane_view.specs.Rectangles.{HasPixel, has_pixel}
 use Rattle.stage_core.specs.Planes.{IsPart}
 
--- the rectangles of the cells of a plane of this shape: each pixel is in exactly one
-pub record AreCells (cells : List Rect) (s : Shape) : Type 0 where
-  pub some : 1 ≤ length cells
-  pub most : length cells ≤ 65536
+-- the cells make up a plane of this shape: each pixel of it is in exactly one of them
+pub record MakeUp (cells : List Rect) (s : Shape) : Type 0 where
   pub part : (k : ℕ) (rect : Rect) → slice_get cells k ≡ Some rect → IsPart rect s
   pub covered : (r c : ℕ) → r < s.rows → c < s.cols → list_any (has_pixel r c) cells ≡ true
   pub apart : (i k : ℕ) (one other : Rect) → slice_get cells i ≡ Some one → slice_get cells k ≡ Some other → (r c : ℕ)
       → HasPixel one r c → HasPixel other r c → i ≡ k
+
+-- the rectangles of the cells of a base, whose plane has this shape
+pub record AreCells (cells : List Rect) (s : Shape) : Type 0 where
+  pub some : 1 ≤ length cells
+  pub most : length cells ≤ 65536
+  pub plane : MakeUp cells s
 
 -- a count that rose by n, held at the greatest number of 64 bits
 abbrev pub raised : ℕ → ℕ → ℕ

@@ -11,9 +11,10 @@ use Rattle.plane_view.specs.declared.Shape.{Shape}
 use Rattle.plane_view.specs.Rectangles.{HasPixel, has_pixel}
 use Rattle.plane_view.proofs.Pixels.{has_pixel-true}
 use Rattle.plane_view.proofs.Samples.{second_positive}
+use Rattle.stage_core.specs.Bases.{MakeUp}
 use Rattle.stage_core.specs.Planes.{IsPart}
 use Rattle.stage_core.proofs.CellLemmas.{any_at}
-use Rattle.stage_deps.specs.Cells.{MakeUp, no_rect}
+use Rattle.stage_deps.specs.Cells.{no_rect}
 use Rattle.stage_deps.specs.Grids.{cells_along, grid_cell, grid_count, grid_rect, grid_cells}
 
 -- a cell begins within the length

@@ -1,11 +1,7 @@
 -- Cells of a plane, and the ones that meet rectangles. This is this project's own.
-use Rattle.std.specs.Prelude.{◌≡◌, ℕ, ◌+◌, ◌<◌, List, [], ◌∷◌, map, get_or, slice_get, Some, min, max, Bool, true, cond}
-use Rattle.std.specs.Prelude.{◌&&◌, nat_lt}
+use Rattle.std.specs.Prelude.{ℕ, ◌+◌, List, [], ◌∷◌, map, get_or, min, max, Bool, cond, ◌&&◌, nat_lt}
 use Rattle.std.specs.List.{list_any}
 use Rattle.plane_view.specs.declared.Rect.{Rect}
-use Rattle.plane_view.specs.declared.Shape.{Shape}
-use Rattle.plane_view.specs.Rectangles.{HasPixel, has_pixel}
-use Rattle.stage_core.specs.Planes.{IsPart}
 
 -- two rectangles have a pixel in common
 abbrev pub meets : Rect → Rect → Bool
@@ -36,10 +32,3 @@ cell_at cells k = get_or cells k no_rect
 -- the rectangles of the cells of these numbers
 abbrev pub cells_at : List Rect → List ℕ → List Rect
 cells_at cells numbers = map (cell_at cells) numbers
-
--- the cells make up a plane of this shape: each pixel of it is in exactly one of them
-pub record MakeUp (cells : List Rect) (s : Shape) : Type 0 where
-  pub part : (k : ℕ) (rect : Rect) → slice_get cells k ≡ Some rect → IsPart rect s
-  pub covered : (r c : ℕ) → r < s.rows → c < s.cols → list_any (has_pixel r c) cells ≡ true
-  pub apart : (i k : ℕ) (one other : Rect) → slice_get cells i ≡ Some one → slice_get cells k ≡ Some other → (r c : ℕ)
-      → HasPixel one r c → HasPixel other r c → i ≡ k

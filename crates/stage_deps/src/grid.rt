@@ -3,7 +3,8 @@
 ghost use Rattle.std.specs.Prelude.{◌≡◌, ℕ, ◌+◌, ◌-◌, ◌/◌, ◌<◌, ◌≤◌, ◌^◌, length, slice_get, Some, IfOk, OnOk};
 ghost use Rattle.std.specs.List.{All};
 ghost use Rattle.plane_view.specs.Shapes.{IsShape};
-ghost use Rattle.stage_deps.specs.Cells.{MakeUp, cells_at, meeting};
+ghost use Rattle.stage_core.specs.Bases.{MakeUp};
+ghost use Rattle.stage_deps.specs.Cells.{cells_at, meeting};
 ghost use Rattle.stage_deps.specs.Grids.{cells_along, grid_cells, grid_count, grid_rect};
 
 use crate::cells::{hull, meets_within};

@@ -52,7 +52,7 @@ put-requires-clause-small g c =
     let cells : List Rect = g.B.Base.cells_of c.args.base.now in
     let within : i < length numbers = omega arith in
     let part : IsPart (cell_at cells n) (shape_of P) =
-    c.requires.own.part n (cell_at cells n) (slice_get-get_or cells n no_rect (c.requires.numbers i 0 within)) in
+    c.requires.own.plane.part n (cell_at cells n) (slice_get-get_or cells n no_rect (c.requires.numbers i 0 within)) in
     let planes : P.planes ≡ c.view.result.planes = sym (ap (λ (L : Lent). L.planes) c.view.ensures
     ∙ c.fetch.ensures.planes ∙ c.loop-k.invariant.planes ∙ c.requires.planes) in
     subst (λ (m : ℕ). area_of (cell_at c.args.cells.now n) * m < 2 ^ 32) planes

@@ -9,7 +9,7 @@ use Rattle.plane_view.specs.Lent.{Lent}
 use Rattle.stage_core.specs.Bases.{AreCells}
 use Rattle.stage_core.specs.Planes.{IsPart}
 use Rattle.stage_core.proofs.Formulas.{shape_is}
-use Rattle.stage_deps.specs.Cells.{MakeUp, cell_at, cells_at, meeting}
+use Rattle.stage_deps.specs.Cells.{cell_at, cells_at, meeting}
 use Rattle.stage_deps.proofs.Coverage.{meeting_bounds}
 use Rattle.kept_cells.specs.Held.{Held, fresh, missing}
 use Rattle.kept_cells.proofs.Keeping.{absent_later, missing_rises}
@@ -19,10 +19,6 @@ use Rattle.region_session.proofs.Copying.{filled_from, missing_told, sizes_of}
 use Rattle.region_session.proofs.Covering.{needed_are_parts, shows_wanted}
 use Rattle.region_session.proofs.Sizes.{small_part}
 use Rattle.region_session.proofs.planes.fetch_wanted.Goals as goal
-
--- the cells of a base make up its plane
-made_up : (cells : List Rect) (s : Shape) → AreCells cells s → MakeUp cells s
-made_up cells s are = record { part = are.part; covered = are.covered; apart = are.apart }
 
 -- the numbers and the rectangles that were found are those of the base's cells
 numbers_are : (cells own lent wanted : List Rect) (found now : List ℕ) → own ≡ cells → lent ≡ own
@@ -60,7 +56,7 @@ reset-requires g c =
     c.deref-4.ensures.value ∙ ap (cells_at cells) numbers in
     small_part c.hull-around.result shape c.shape-shape.ensures.shape
     (c.hull-around.ensures.part shape (subst (λ (xs : List Rect). All (λ (rect : Rect). IsPart rect shape) xs)
-    (sym rects) (needed_are_parts shape cells wanted (made_up cells shape c.shape-shape.ensures.cells))))
+    (sym rects) (needed_are_parts shape cells wanted c.shape-shape.ensures.cells.plane)))
 
 pub copy_fresh-requires-clause-sizes : goal.copy_fresh-requires-clause-sizes
 copy_fresh-requires-clause-sizes g c =
@@ -191,7 +187,7 @@ returns-clause-shows g c =
     subst (λ (x : Rect). All (λ (rect : Rect). LiesIn rect x) (cells_at cells (meeting cells wanted))) is
     (subst (λ (xs : List Rect). All (λ (rect : Rect). LiesIn rect c.hull-around.result) xs) rects
     c.hull-around.ensures.all) in
-    shows_wanted P patch shape cells wanted (made_up cells shape c.shape-shape.ensures.cells)
+    shows_wanted P patch shape cells wanted c.shape-shape.ensures.cells.plane
     (subst (λ (s : Shape). All (λ (rect : Rect). IsPart rect s) wanted) (shape_is P shape c.shape-shape.ensures.plane)
     c.requires.wanted)
     lie (filled_from P patch wanted cells held 0 (meeting cells wanted) all)

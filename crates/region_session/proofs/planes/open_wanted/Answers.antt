@@ -4,7 +4,8 @@ use Rattle.std.proofs.lemmas.Result.{IfOk-weaker}
 use Rattle.plane_view.specs.declared.Rect.{Rect}
 use Rattle.plane_view.specs.declared.Shape.{Shape}
 use Rattle.stage_core.specs.Planes.{IsPart}
-use Rattle.stage_deps.specs.Cells.{MakeUp, cells_at, meeting}
+use Rattle.stage_core.specs.Bases.{MakeUp}
+use Rattle.stage_deps.specs.Cells.{cells_at, meeting}
 use Rattle.stage_deps.specs.Grids.{grid_cells}
 use Rattle.stage_deps.proofs.Coverage.{meeting_bounds}
 use Rattle.stage_deps.proofs.GridCells.{grid_makes_up}

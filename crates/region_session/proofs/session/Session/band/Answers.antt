@@ -11,7 +11,6 @@ use Rattle.stage_core.proofs.Formulas.{shape_is}
 use Rattle.stage_core.specs.Planes.{IsPlane}
 use Rattle.stage_core.specs.Stages.{shape_of}
 use Rattle.stage_chain.specs.Chains.{whole_of}
-use Rattle.stage_deps.specs.Cells.{MakeUp}
 use Rattle.tile_cache.specs.Cache.{sizes}
 use Rattle.kept_cells.specs.Kept.{Kept, Marks, holding, keep_of}
 use Rattle.kept_cells.specs.Missing.{count_of_fetches, count_of_runs}
@@ -205,11 +204,10 @@ returns-clause-nothing g c = λ zero none.
     let told : input ≡ c.shape-shape.result = shape_is P c.shape-shape.result c.shape-shape.ensures.plane in
     let is : IsShape input = subst IsShape (sym told) c.shape-shape.ensures.shape in
     let are : AreCells cells input = subst (λ (t : Shape). AreCells cells t) (sym told) c.shape-shape.ensures.cells in
-    let up : MakeUp cells input = record { part = are.part; covered = are.covered; apart = are.apart } in
     let list : Kept = listed a stamps in
     let same : keep_of need list P.planes cells (tiles_at s.stages.items) wanted ≡ list =
     keep_unkept (holding list) need list P.planes cells (tiles_at s.stages.items) wanted
-    (record { none = none_kept; zero = no_budget }) (cells_have_samples input cells up is)
+    (record { none = none_kept; zero = no_budget }) (cells_have_samples input cells are.plane is)
     (tiers_have_samples g.S.Stage.takes shaped g.met.S.Stage.makes_shapes s.side (omega (arith, c.self.invariant.least))
     input s.stages.items s.layers.items c.self.invariant.stand is) in
     keys ∙ ap (λ (K : Kept). K.items) same ∙ none_kept
