@@ -8,19 +8,20 @@ use Rattle.plane_view.specs.Shapes.{IsShape}
 use Rattle.stage_core.specs.Planes.{IsPart, IsPlane}
 use Rattle.stage_core.specs.Stages.{AreAlike, IsLocal}
 use Rattle.stage_core.proofs.Formulas.{local_by, planes_by}
+use Rattle.stage_core.proofs.Parts.{grown_is_part}
 use Rattle.opcode_stages.specs.CropLaws.{crop_alike, crop_needs, crop_rests, crop_shapes}
 use Rattle.opcode_stages.specs.Crops.{cropped_at, cropped_shape}
 use Rattle.opcode_stages.specs.MapLaws.{map_alike, map_rests}
 use Rattle.opcode_stages.specs.Maps.{mapped_at}
 use Rattle.opcode_stages.specs.MendEquality.{constant_alike, list_alike}
-use Rattle.opcode_stages.specs.MendLaws.{equals_rests, listed_rests, mend_needs, mend_rests}
+use Rattle.opcode_stages.specs.MendLaws.{equals_rests, listed_rests, mend_rests}
 use Rattle.opcode_stages.specs.Mends.{equals, is_listed, mended_at}
 use Rattle.linearise.specs.Equal.{same_stages}
 use Rattle.linearise.specs.Laws.{linear_rests}
 use Rattle.linearise.specs.Parameters.{linear_of}
 use Rattle.malvar.specs.Demosaic.{demosaiced_at, reach_of, table_of}
 use Rattle.malvar.specs.Equal.{same_mosaics}
-use Rattle.malvar.specs.Laws.{coloured_is_shape, needed_is_part, reads_near}
+use Rattle.malvar.specs.Laws.{coloured_is_shape, reads_near}
 use Rattle.malvar.specs.Mosaics.{cfa_of}
 use Rattle.colour_matrix.specs.Balances.{balanced_at}
 use Rattle.colour_matrix.specs.Equal.{same_balances, same_matrices}
@@ -65,12 +66,12 @@ planes_of (Tone s) input P takes is = planes_by (λ t. t) (λ t at. entry_at s a
 -- what a stage needs for a part of its plane is a part of the plane below
 pub parts_of : (s : DevStage) (input : Shape) (rect : Rect) → takes_of s input → IsPart rect (shaped_of s input)
     → IsPart (needed_of s input rect) input
-parts_of (FixConstant s) input rect takes part = mend_needs input rect part
-parts_of (FixList s) input rect takes part = mend_needs input rect part
+parts_of (FixConstant s) input rect takes part = grown_is_part 2 input.planes input rect part
+parts_of (FixList s) input rect takes part = grown_is_part 2 input.planes input rect part
 parts_of (Map s) input rect takes part = part
 parts_of (Crop s) input rect takes part = crop_needs s.rect input rect takes part
 parts_of (Linearise s) input rect takes part = part
-parts_of (Demosaic s) input rect takes part = needed_is_part (reach_of s.kind) input rect part
+parts_of (Demosaic s) input rect takes part = grown_is_part (reach_of s.kind) 3 input rect part
 parts_of (Balance s) input rect takes part = part
 parts_of (Matrix s) input rect takes part = part
 parts_of (Tone s) input rect takes part = part

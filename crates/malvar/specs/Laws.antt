@@ -26,15 +26,6 @@ coloured_is_shape input is =
       planes = omega arith;
     }
 
--- a part with a margin, within the plane, is a part
-pub needed_is_part : (by : ℕ) (input : Shape) (rect : Rect) → IsPart rect (coloured input)
-    → IsPart (grown rect by (whole_rect input.rows input.cols)) input
-needed_is_part by input rect part =
-    record {
-      some = record { rows = omega arith; cols = omega arith };
-      inside = record { top = omega arith; bottom = omega arith; left = omega arith; right = omega arith };
-    }
-
 -- a demosaiced sample rests on those as far away as the kind reaches
 pub reads_near : (kind : Kind) (cfa : List ℕ) (input : Shape) (rect : Rect) → IsMosaic input
     → IsPart rect (coloured input)

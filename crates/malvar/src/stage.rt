@@ -39,11 +39,12 @@ impl Demosaic {
 }
 
 impl Stage for Demosaic {
-    ghost use Rattle.malvar.specs.Laws.{coloured_is_shape, needed_is_part, reads_near};
+    ghost use Rattle.malvar.specs.Laws.{coloured_is_shape, reads_near};
     ghost use Rattle.malvar.specs.Equal.{same_mosaics};
     ghost use Rattle.malvar.specs.Demosaic.{demosaiced_at};
     ghost use Rattle.malvar.specs.Mosaics.{cfa_of};
     ghost use Rattle.stage_core.proofs.Formulas.{planes_by, local_by};
+    ghost use Rattle.stage_core.proofs.Parts.{grown_is_part};
 
     ghost apply = { λ s P. demosaiced (table_of s.kind) (cfa_of s) P };
 
@@ -83,7 +84,7 @@ impl Stage for Demosaic {
     ghost makes_planes = { λ s input P shape takes is. planes_by coloured
         (λ t at. demosaiced_at (table_of s.kind) (cfa_of s) t.rows t.cols at) input P is };
 
-    ghost needs_part = { λ s input rect shape takes part. needed_is_part (reach_of s.kind) input rect part };
+    ghost needs_part = { λ s input rect shape takes part. grown_is_part (reach_of s.kind) 3 input rect part };
 
     ghost local = { λ s input rect shape takes part. local_by coloured
         (λ t at. demosaiced_at (table_of s.kind) (cfa_of s) t.rows t.cols at) input

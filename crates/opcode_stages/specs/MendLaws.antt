@@ -16,15 +16,6 @@ use Rattle.opcode_stages.specs.Mends.{IsSingle, steps_of, is_green, row_after, c
 use Rattle.opcode_stages.specs.Mends.{good_count, mean_or, mended_at, equals, is_listed}
 use Rattle.opcode_stages.specs.inner.MendRows.{IsShort}
 
--- a part with two rows and columns round it, within the plane, is a part
-pub mend_needs : (input : Shape) (rect : Rect) → IsPart rect input
-    → IsPart (grown rect 2 (whole_rect input.rows input.cols)) input
-mend_needs input rect part =
-    record {
-      some = record { rows = omega arith; cols = omega arith };
-      inside = record { top = omega arith; bottom = omega arith; left = omega arith; right = omega arith };
-    }
-
 -- whether a pixel is bad rests on its sample
 abbrev pub BadRests : ((ℕ → ℕ → ℕ → ℕ) → ℕ → ℕ → Bool) → Type 0
 BadRests bad = (f g : ℕ → ℕ → ℕ → ℕ) (r c : ℕ) → f r c 0 ≡ g r c 0 → bad f r c ≡ bad g r c

@@ -51,10 +51,11 @@ impl Defects for FixConstant {
 }
 
 impl Stage for FixConstant {
-    ghost use Rattle.opcode_stages.specs.MendLaws.{mend_needs, mend_rests, equals_rests};
+    ghost use Rattle.opcode_stages.specs.MendLaws.{mend_rests, equals_rests};
     ghost use Rattle.opcode_stages.specs.MendStages.{constant_of, phase_of};
     ghost use Rattle.opcode_stages.specs.MendEquality.{constant_alike};
     ghost use Rattle.stage_core.proofs.Formulas.{planes_by, local_by};
+    ghost use Rattle.stage_core.proofs.Parts.{grown_is_part};
 
     ghost apply = { λ s P. mended (equals (constant_of s)) (phase_of s) P };
 
@@ -89,7 +90,7 @@ impl Stage for FixConstant {
     ghost makes_planes = { λ s input P shape takes is. planes_by (λ t. t)
         (λ t at. mended_at (equals (constant_of s) at) (phase_of s) t.rows t.cols at) input P is };
 
-    ghost needs_part = { λ s input rect shape takes part. mend_needs input rect part };
+    ghost needs_part = { λ s input rect shape takes part. grown_is_part 2 input.planes input rect part };
 
     ghost local = { λ s input rect shape takes part. local_by (λ t. t)
         (λ t at. mended_at (equals (constant_of s) at) (phase_of s) t.rows t.cols at) input

@@ -106,9 +106,10 @@ impl Defects for FixList {
 }
 
 impl Stage for FixList {
-    ghost use Rattle.opcode_stages.specs.MendLaws.{mend_needs, mend_rests, listed_rests};
+    ghost use Rattle.opcode_stages.specs.MendLaws.{mend_rests, listed_rests};
     ghost use Rattle.opcode_stages.specs.MendEquality.{list_alike};
     ghost use Rattle.stage_core.proofs.Formulas.{planes_by, local_by};
+    ghost use Rattle.stage_core.proofs.Parts.{grown_is_part};
 
     ghost apply = { λ s P. mended (is_listed s.points s.rects) s.phase P };
 
@@ -143,7 +144,7 @@ impl Stage for FixList {
     ghost makes_planes = { λ s input P shape takes is. planes_by (λ t. t)
         (λ t at. mended_at (is_listed s.points s.rects at) s.phase t.rows t.cols at) input P is };
 
-    ghost needs_part = { λ s input rect shape takes part. mend_needs input rect part };
+    ghost needs_part = { λ s input rect shape takes part. grown_is_part 2 input.planes input rect part };
 
     ghost local = { λ s input rect shape takes part. local_by (λ t. t)
         (λ t at. mended_at (is_listed s.points s.rects at) s.phase t.rows t.cols at) input

@@ -2,4 +2,5 @@ pub mod CellLemmas
 pub mod Counting
 pub mod FetchedCells
 pub mod Formulas
+pub mod Parts
 pub mod PixelCells
