@@ -1,8 +1,9 @@
 -- What holds of the record of each frame that is read. The limits are this project's own.
-use Rattle.std.specs.Prelude.{◌≡◌, ℕ, ◌+◌, ◌*◌, ◌^◌, ◌<◌, ◌≤◌, ℤ, pos, ◌<ℤ◌, ◌⊎◌, All, List, length, slice_get}
+use Rattle.std.specs.Prelude.{◌≡◌, ℕ, ◌+◌, ◌*◌, ◌<◌, ◌≤◌, ℤ, pos, ◌<ℤ◌, ◌⊎◌, All, List, length, slice_get}
 use Rattle.std.specs.Prelude.{slice_index, Option, None, Some, IfSome}
 use Rattle.plane_view.specs.Plane.{coloured}
 use Rattle.plane_view.specs.Rectangles.{HasPixel, IsNonEmpty, LiesIn, height, whole_rect, width}
+use Rattle.plane_view.specs.Shapes.{max_samples, max_side}
 use Rattle.plane_view.specs.declared.Shape.{Shape}
 use Rattle.tiff_dirs.specs.Header.{order_of}
 use Rattle.dng_tags.specs.Black.{span_of}
@@ -20,11 +21,11 @@ use Rattle.dng_tags.specs.declared.record.Segment.{Segment}
 -- a raw image's shape
 pub record IsRawShape (shape : Shape) : Type 0 where
   pub some_rows : 1 ≤ shape.rows
-  pub rows : shape.rows ≤ 8192
+  pub rows : shape.rows ≤ max_side
   pub some_cols : 1 ≤ shape.cols
-  pub cols : shape.cols ≤ 8192
+  pub cols : shape.cols ≤ max_side
   pub planes : shape.planes ≡ 1
-  pub area : shape.rows * shape.cols ≤ 2 ^ 25
+  pub area : shape.rows * shape.cols ≤ max_samples
 
 -- a segment of an image: its pixels lie in the image, and in what is coded of it
 pub record IsPart (shape : Shape) (segment : Segment) : Type 0 where
@@ -32,7 +33,7 @@ pub record IsPart (shape : Shape) (segment : Segment) : Type 0 where
   pub inside : LiesIn segment.rect (whole_rect shape.rows shape.cols)
   pub rows : height segment.rect ≤ segment.full_rows
   pub cols : width segment.rect ≤ segment.full_cols
-  pub coded : segment.full_rows * segment.full_cols ≤ 2 ^ 25
+  pub coded : segment.full_rows * segment.full_cols ≤ max_samples
 
 -- the segments of an image: each pixel is in exactly one
 pub record AreParts (shape : Shape) (segments : List Segment) : Type 0 where

@@ -1,8 +1,9 @@
 -- The group of the form: what kind of image it is (TIFF 6.0, section 8, "PhotometricInterpretation", "Compression",
 -- "SamplesPerPixel", "BitsPerSample", "ImageWidth", "ImageLength", and section 19, "SampleFormat"; DNG 1.6, chapter 3,
 -- for photometric interpretation 32803 and compression 7). The limits of the image's size are this project's own.
-use Rattle.std.specs.Prelude.{ℕ, ◌*◌, ◌^◌, ◌==◌, nat_le, ◌&&◌, ◌||◌, if◌then◌else◌, Bool, Result, Ok, Err}
+use Rattle.std.specs.Prelude.{ℕ, ◌*◌, ◌==◌, nat_le, ◌&&◌, ◌||◌, if◌then◌else◌, Bool, Result, Ok, Err}
 use Rattle.plane_view.specs.declared.Shape.{Shape}
+use Rattle.plane_view.specs.Shapes.{max_samples, max_side}
 use Rattle.text_line.specs.Chain.{and_then}
 use Rattle.tag_rules.specs.Values.{Dirs, number_or, required_number_of}
 use Rattle.tag_rules.specs.declared.faults.FrameFault.{FrameFault}
@@ -44,14 +45,14 @@ format_of dirs = and_then (number_or dirs SampleFormat 1) (λ v. if v == 1 then 
 unfoldable pub side_of : Dirs → Tag → Result ℕ FrameFault
 side_of dirs tag =
     and_then (required_number_of dirs tag) (λ side.
-    if nat_le 1 side && nat_le side 8192 then Ok side else Err Size)
+    if nat_le 1 side && nat_le side max_side then Ok side else Err Size)
 
 -- the shape of the raw image: its sides, of one plane
 unfoldable pub shape_of : Dirs → Result Shape FrameFault
 shape_of dirs =
     and_then (side_of dirs ImageWidth) (λ cols.
     and_then (side_of dirs ImageLength) (λ rows.
-    if nat_le (rows * cols) (2 ^ 25) then Ok (record { rows = rows; cols = cols; planes = 1 }) else Err Size))
+    if nat_le (rows * cols) max_samples then Ok (record { rows = rows; cols = cols; planes = 1 }) else Err Size))
 
 -- the group of the form
 unfoldable pub form_of : Dirs → Result Form FrameFault

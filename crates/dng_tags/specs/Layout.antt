@@ -4,6 +4,7 @@ use Rattle.std.specs.Prelude.{ℕ, ◌+◌, ◌-◌, ◌*◌, ◌/◌, ◌%◌, 
 use Rattle.std.specs.Prelude.{List, map, length, slice_index, Option, None, Some, Result, Ok, Err, unwrap_or, min}
 use Rattle.std.specs.List.{position, range_with_len}
 use Rattle.plane_view.specs.Rectangles.{height}
+use Rattle.plane_view.specs.Shapes.{max_samples}
 use Rattle.plane_view.specs.declared.Rect.{Rect}
 use Rattle.plane_view.specs.declared.Shape.{Shape}
 use Rattle.text_line.specs.Chain.{and_then}
@@ -33,7 +34,7 @@ unfoldable pub checked_layout : Shape → Layout → Result Layout FrameFault
 checked_layout shape layout =
     let count = segment_count shape layout.cut in
     if nat_le count 65536
-    && nat_le (layout.cut.rows * layout.cut.cols) (2 ^ 25)
+    && nat_le (layout.cut.rows * layout.cut.cols) max_samples
     && nat_le count (length layout.offsets)
     && nat_le count (length layout.counts)
     then Ok layout else Err LayoutFault

@@ -1,12 +1,13 @@
 //! The second group: what kind of image it is.
 
 ghost use Rattle.std.specs.Prelude.{◌≡◌, ◌≤◌, IfOk, IsTrue};
+ghost use Rattle.plane_view.specs.Shapes.{max_side};
 ghost use Rattle.dng_tags.specs.Facts.{IsRawShape};
 ghost use Rattle.dng_tags.specs.Form.{depth_of, form_of, format_of, lossless_of, photometric_of, samples_per_pixel_of};
 ghost use Rattle.dng_tags.specs.Form.{shape_of, side_of};
 ghost use Rattle.tag_rules.specs.Tags.{are_whole, rule_of};
 
-use plane_view::Shape;
+use plane_view::{MAX_SAMPLES, MAX_SIDE, Shape};
 use tag_rules::{Directories, FrameFault, Tag};
 
 /// The value of PhotometricInterpretation for a colour filter array.
@@ -19,12 +20,6 @@ const LOSSLESS_JPEG: u32 = 7;
 
 /// The value of SampleFormat for unsigned whole numbers.
 const UNSIGNED: u32 = 1;
-
-/// The most rows or columns of an image.
-const MAX_SIDE: u32 = 8192;
-
-/// The most pixels of an image.
-const MAX_AREA: u64 = 1 << 25;
 
 /// What kind of image it is.
 #[derive(Clone, Copy, Debug, PartialEq, Eq)]
@@ -128,7 +123,7 @@ fn read_shape(dirs: &Directories<'_>) -> Result<Shape, FrameFault>
 {
     let cols = read_side(dirs, Tag::ImageWidth)?;
     let rows = read_side(dirs, Tag::ImageLength)?;
-    if u64::from(rows) * u64::from(cols) > MAX_AREA {
+    if u64::from(rows) * u64::from(cols) > u64::from(MAX_SAMPLES) {
         return Err(FrameFault::Size);
     }
     Ok(Shape {
@@ -144,7 +139,7 @@ fn read_side(dirs: &Directories<'_>, tag: Tag) -> Result<u32, FrameFault>
     requires whole { IsTrue (are_whole (rule_of tag).kinds) }
     requires some { 1 ≤ (rule_of tag).fewest }
     ensures answer { result ≡ side_of dirs.now tag }
-    ensures range { IfOk result (λ side. (1 ≤ side) × (side ≤ 8192)) }
+    ensures range { IfOk result (λ side. (1 ≤ side) × (side ≤ max_side)) }
 {
     let side = dirs.required_number(tag)?;
     if !(1..=MAX_SIDE).contains(&side) {

@@ -12,7 +12,7 @@ ghost use Rattle.dng_tags.specs.inner.Layout.{HasSides, IsChecked};
 
 use crate::record::Segment;
 use lists::Items;
-use plane_view::{Rect, Shape};
+use plane_view::{MAX_SAMPLES, Rect, Shape};
 use std::alloc::Global;
 use tag_rules::{Directories, FrameFault, Tag, Whole};
 
@@ -21,9 +21,6 @@ const MAX_TILE_SIDE: u32 = 16384;
 
 /// The most segments.
 const MAX_SEGMENTS: u64 = 65536;
-
-/// The most coded samples of a segment.
-const MAX_CODED: u64 = 1 << 25;
 
 /// How an image is cut into segments.
 #[derive(Clone, Copy, Debug, PartialEq, Eq)]
@@ -107,7 +104,7 @@ impl<'a> Layout<'a> {
         let count = self.cut.count(shape);
         let coded = u64::from(self.cut.rows) * u64::from(self.cut.cols);
         if count > MAX_SEGMENTS
-            || coded > MAX_CODED
+            || coded > u64::from(MAX_SAMPLES)
             || u64::from(self.offsets.len()) < count
             || u64::from(self.counts.len()) < count
         {

@@ -1,5 +1,5 @@
 -- How large the numbers of a crop are. This is this project's own.
-use Rattle.std.specs.Prelude.{ℕ, ℤ, pos, neg_ℤ, ◌≤ℤ◌}
+use Rattle.std.specs.Prelude.{ℕ, pos, neg_ℤ, ◌≤ℤ◌}
 use Rattle.dng_tags.specs.declared.area.Extent.{Extent}
 
 -- a place or a size none of whose numbers is beyond a limit
