@@ -9,8 +9,8 @@ use Rattle.tiff_dirs.specs.Numbers.{number_at}
 use Rattle.tiff_dirs.specs.Values.{number_in}
 use Rattle.tiff_dirs.specs.declared.Order.TheVariants.{Little}
 use Rattle.dng_tags.specs.Area.{active_of, crop_of, extent_of, large_enough}
-use Rattle.dng_tags.specs.Black.{greatest_black, levels_of, levels_under, repeat_of, span_of, spanning, table_of}
-use Rattle.dng_tags.specs.Black.{white_of}
+use Rattle.dng_tags.specs.Black.{greatest_black, levels_of, levels_under, repeat_of, row_by_row, span_of, spanning}
+use Rattle.dng_tags.specs.Black.{table_of, white_of}
 use Rattle.dng_tags.specs.Colours.{analog_of, calibration_of, colour_of, gain_of, gains_in, gains_of, has_gain}
 use Rattle.dng_tags.specs.Colours.{is_positive, matrix_of, ones}
 use Rattle.dng_tags.specs.Form.{depth_of, form_of, format_of, lossless_of, photometric_of, samples_per_pixel_of}
@@ -97,7 +97,7 @@ unfolding frame_of record_of tiff_of open_of origin_of version_of needed_version
     greatest_black crop_of extent_of colour_of matrix_of calibration_of analog_of gains_of numbers_of number_of
     numbers_at fractions_of fractions_at field_at numbers_in fractions_in order_of is_big is_little has_header
     first_directory directory_fits entry_count number_at entry_of entries field_or_fault field_of value_fits value_size
-    value_place slot_at size_of number_in
+    value_place slot_at size_of number_in row_by_row
 flat-frame = refl
 
 -- one byte fewer, and a shorter file
@@ -152,5 +152,5 @@ two_rows = record {
 
 greatest-of-area : (greatest_black two_rows 2 3 ≡ pos 521) × (greatest_black two_rows 1 3 ≡ pos 265)
     × (span_of two_rows 2 3 ≡ pos 503)
-unfolding greatest_black span_of
+unfolding greatest_black row_by_row span_of
 greatest-of-area = (refl, refl, refl)

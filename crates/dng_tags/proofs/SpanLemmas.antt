@@ -9,7 +9,7 @@ use Rattle.std.proofs.lemmas.Int.{ints, clamps}
 use Rattle.std.proofs.lemmas.List.FromFn.{length-map-range_with_len, get_or-map-range_with_len}
 use Rattle.std.proofs.Math.Nat.{mod-eq_of_lt, mod-le}
 use Rattle.std.proofs.lemmas.Nat.{div_below, div-mul-add, mod-mul-add, mod_below, mul-add-lt}
-use Rattle.dng_tags.specs.Black.{across_at, black_at, greatest, greatest_black}
+use Rattle.dng_tags.specs.Black.{across_at, black_at, greatest, greatest_black, row_by_row}
 use Rattle.dng_tags.specs.inner.Span.{FallsBefore, FallsOn, IsGreatest, IsGreatestBlack, IsReached, IsReachedBlack}
 use Rattle.dng_tags.specs.declared.record.Levels.{Levels}
 
@@ -200,7 +200,7 @@ greatest_is (x ∷ y ∷ rest) m bound (suc at) within same =
 pub greatest_black_is : (levels : Levels) (rows cols limit : ℕ) (m : ℤ) → limit ≡ min levels.black_rows rows
     → 1 ≤ levels.black_rows → 1 ≤ cols
     → IsGreatestBlack (FallsBefore rows levels.black_rows limit) levels cols m → greatest_black levels rows cols ≡ m
-unfolding greatest_black
+unfolding greatest_black row_by_row
 greatest_black_is levels rows cols limit m is some some_cols most =
     let f : ℕ → ℤ = λ i. black_at levels (i / cols) (i % cols) in
     let count : length (map f (range_with_len 0 (rows * cols))) ≡ rows * cols =

@@ -30,9 +30,7 @@ across_at levels i c =
 -- add
 abbrev pub black_at : Levels → (r c : ℕ) → ℤ
 black_at levels r c =
-    slice_index_or levels.black (r % levels.black_rows * levels.black_cols + c % levels.black_cols) (pos 0)
-    +ℤ slice_index_or levels.delta_h c (pos 0)
-    +ℤ slice_index_or levels.delta_v r (pos 0)
+    across_at levels (r % levels.black_rows) c +ℤ slice_index_or levels.delta_v r (pos 0)
 
 -- the greatest of numbers, of which there is at least one
 abbrev pub greatest : List ℤ → ℤ
@@ -40,10 +38,13 @@ greatest [] = pos 0
 greatest (x ∷ []) = x
 greatest (x ∷ y ∷ rest) = int_max x (greatest (y ∷ rest))
 
+-- the numbers of an area of this many rows and columns, row by row
+unfoldable pub row_by_row : (rows cols : ℕ) → (ℕ → ℕ → ℤ) → List ℤ
+row_by_row rows cols f = map (λ i. f (i / cols) (i % cols)) (range_with_len 0 (rows * cols))
+
 -- the greatest black level of an active area of this many rows and columns
 unfoldable pub greatest_black : Levels → (rows cols : ℕ) → ℤ
-greatest_black levels rows cols =
-    greatest (map (λ i. black_at levels (i / cols) (i % cols)) (range_with_len 0 (rows * cols)))
+greatest_black levels rows cols = greatest (row_by_row rows cols (black_at levels))
 
 -- how far the white level is above the greatest black level, in 256ths
 unfoldable pub span_of : Levels → (rows cols : ℕ) → ℤ

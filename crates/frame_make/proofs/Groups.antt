@@ -25,7 +25,8 @@ use Rattle.tag_rules.specs.declared.tags.Tag.TheVariants.{NewSubfileType, Opcode
 use Rattle.tag_rules.specs.declared.tags.Tag.TheVariants.{RowsPerStrip, SampleFormat, SamplesPerPixel, TileWidth}
 use Rattle.dng_tags.specs.Area.{active_of, crop_of, crop_rect, extent_of, has_pixels, held_within, large_enough}
 use Rattle.dng_tags.specs.Area.{rest_of}
-use Rattle.dng_tags.specs.Black.{black_at, greatest, greatest_black, levels_of, levels_under, repeat_of, span_of}
+use Rattle.dng_tags.specs.Black.{black_at, greatest, greatest_black, levels_of, levels_under, repeat_of, row_by_row}
+use Rattle.dng_tags.specs.Black.{span_of}
 use Rattle.dng_tags.specs.Black.{spanning, table_of, white_of}
 use Rattle.dng_tags.specs.Colours.{analog_of, calibration_of, colour_of, gains_of, matrix_of}
 use Rattle.dng_tags.specs.Form.{depth_of, form_of, format_of, lossless_of, photometric_of, samples_per_pixel_of}
@@ -76,7 +77,7 @@ greatest_zero f a (suc (suc n)) zeros =
     rw (zeros a, greatest_zero f (a + 1) (suc n) zeros) refl
 
 span_is : (h w : ℕ) → span_of made_levels h w ≡ pos 1048320
-unfolding span_of greatest_black
+unfolding span_of greatest_black row_by_row
 span_is h w =
     let none = greatest_zero (λ i. black_at made_levels (i / w) (i % w)) 0 (h * w) (λ i. black_zero (i / w) (i % w)) in
     rw none refl

@@ -6,15 +6,14 @@ use Rattle.std.proofs.lemmas.List.{ext_get_or}
 use Rattle.std.proofs.lemmas.List.FromFn.{length-map-range_with_len, get_or-map-range_with_len}
 use Rattle.std.proofs.lemmas.Nat.{div_below, div-mul-add, mod-mul-add, mod_below, mul-add-lt}
 use Rattle.std.specs.Prelude.{◌+ℤ◌}
-use Rattle.dng_tags.specs.Black.{across_at, black_at}
+use Rattle.dng_tags.specs.Black.{across_at, black_at, row_by_row}
 use Rattle.dng_tags.specs.declared.record.Levels.{Levels}
-use Rattle.linearise.specs.Blacks.{area_of}
 use Rattle.linearise.specs.inner.Blacks.{black_by}
 
 -- a level of an area, by its place
 pub area_at : (rows cols : ℕ) (f : ℕ → ℕ → ℤ) (r c : ℕ) → r < rows → c < cols
-    → get_or (area_of rows cols f) (r * cols + c) (pos 0) ≡ f r c
-unfolding area_of
+    → get_or (row_by_row rows cols f) (r * cols + c) (pos 0) ≡ f r c
+unfolding row_by_row
 area_at rows cols f r c in_rows in_cols =
     let within : r * cols + c < rows * cols = omega (arith, mul-add-lt r cols c rows in_rows in_cols) in
     get_or-map-range_with_len (λ i. f (i / cols) (i % cols)) 0 (rows * cols) (r * cols + c) (r * cols + c) (pos 0)
@@ -24,8 +23,8 @@ area_at rows cols f r c in_rows in_cols =
 
 -- the same levels at each place
 pub area_same : (rows cols : ℕ) (f g : ℕ → ℕ → ℤ) → 1 ≤ cols → ((r c : ℕ) → r < rows → c < cols → f r c ≡ g r c)
-    → area_of rows cols f ≡ area_of rows cols g
-unfolding area_of
+    → row_by_row rows cols f ≡ row_by_row rows cols g
+unfolding row_by_row
 area_same rows cols f g some same =
     let by_f : ℕ → ℤ = λ i. f (i / cols) (i % cols) in
     let by_g : ℕ → ℤ = λ i. g (i / cols) (i % cols) in
@@ -40,8 +39,8 @@ area_same rows cols f g some same =
     ∙ sym (get_or-map-range_with_len by_g 0 n i i (pos 0) within (omega arith)))
 
 -- two areas with the same levels have them at each place
-pub area_points : (rows cols : ℕ) (f g : ℕ → ℕ → ℤ) → area_of rows cols f ≡ area_of rows cols g → (r c : ℕ) → r < rows
-    → c < cols → f r c ≡ g r c
+pub area_points : (rows cols : ℕ) (f g : ℕ → ℕ → ℤ) → row_by_row rows cols f ≡ row_by_row rows cols g → (r c : ℕ)
+    → r < rows → c < cols → f r c ≡ g r c
 area_points rows cols f g same r c in_rows in_cols =
     sym (area_at rows cols f r c in_rows in_cols) ∙ ap (λ xs. get_or xs (r * cols + c) (pos 0)) same
     ∙ area_at rows cols g r c in_rows in_cols
@@ -51,7 +50,7 @@ pub levels_are : (levels : Levels) (rows cols : ℕ) (across down : List ℤ) �
     → length across ≡ levels.black_rows * cols → length down ≡ rows
     → ((k : ℕ) → k < length across → get_or across k (pos 0) ≡ across_at levels (k / cols) (k % cols))
     → ((k : ℕ) → k < length down → get_or down k (pos 0) ≡ get_or levels.delta_v k (pos 0))
-    → area_of rows cols (black_by cols levels.black_rows across down) ≡ area_of rows cols (black_at levels)
+    → row_by_row rows cols (black_by cols levels.black_rows across down) ≡ row_by_row rows cols (black_at levels)
 levels_are levels rows cols across down some some_rows long_across long_down in_across in_down =
     area_same rows cols (black_by cols levels.black_rows across down) (black_at levels) some
     (λ r c in_rows in_cols.

@@ -1,4 +1,3 @@
-pub mod Blacks
 pub mod Equal
 pub mod Laws
 pub mod Linear

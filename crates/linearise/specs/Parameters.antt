@@ -6,9 +6,8 @@ use Rattle.std.specs.Ordering.{int_eq}
 use Rattle.plane_view.specs.Plane.{Plane, sample}
 use Rattle.plane_view.specs.declared.Shape.{Shape}
 use Rattle.stage_core.specs.Stages.{plane_by, shape_of}
-use Rattle.dng_tags.specs.Black.{black_at, span_of}
+use Rattle.dng_tags.specs.Black.{black_at, row_by_row, span_of}
 use Rattle.dng_tags.specs.declared.record.Levels.{Levels}
-use Rattle.linearise.specs.Blacks.{area_of}
 use Rattle.linearise.specs.Linear.{by_table, linear_at}
 
 -- an area's numbers of rows and columns, the table, the black level of each place, row by row, and how far the white
@@ -27,7 +26,7 @@ parameters levels rows cols =
       rows = rows;
       cols = cols;
       table = levels.table;
-      blacks = area_of rows cols (black_at levels);
+      blacks = row_by_row rows cols (black_at levels);
       span = span_of levels rows cols;
     }
 

@@ -2,10 +2,9 @@
 
 ghost use Rattle.std.specs.Prelude.{◌≡◌, ℕ, ◌+◌, ◌-◌, ◌*◌, ◌/◌, ◌%◌, ◌<◌, ◌≤◌, ◌↔◌, pos, ◌+ℤ◌, length, slice_index_or};
 ghost use Rattle.std.specs.Prelude.{IfOk, IsTrue};
-ghost use Rattle.dng_tags.specs.Black.{across_at, black_at};
+ghost use Rattle.dng_tags.specs.Black.{across_at, black_at, row_by_row};
 ghost use Rattle.dng_tags.specs.Facts.{AreDeltas, AreRanged, IsBlackPattern};
 ghost use Rattle.tag_rules.specs.Quantities.{AreWithin, IsWithin};
-ghost use Rattle.linearise.specs.Blacks.{area_of};
 ghost use Rattle.linearise.specs.inner.Blacks.{AreBlacks, IsAreaSize, black_by};
 
 use dng_tags::Levels;
@@ -43,7 +42,7 @@ impl Blacks {
         requires delta_v { AreDeltas levels.now.delta_v rows }
         ensures rows { IfOk result (λ blacks. blacks.rows ≡ rows) }
         ensures cols { IfOk result (λ blacks. blacks.cols ≡ cols) }
-        ensures blacks { IfOk result (λ blacks. blacks_in blacks ≡ area_of rows cols (black_at levels.now)) }
+        ensures blacks { IfOk result (λ blacks. blacks_in blacks ≡ row_by_row rows cols (black_at levels.now)) }
     {
         let across = across_levels(alloc, levels, cols)?;
         let down = down_levels(alloc, &levels.delta_v, rows)?;

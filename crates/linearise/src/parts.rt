@@ -4,9 +4,8 @@ ghost use Rattle.std.specs.Prelude.{◌≡◌, ◌*◌, ◌≤◌, ◌<◌, ◌^
 ghost use Rattle.plane_view.specs.Lent.{HasRow, sample_at};
 ghost use Rattle.plane_view.specs.Rectangles.{LiesIn, width};
 ghost use Rattle.plane_view.specs.Rows.{IsRowOf};
-ghost use Rattle.dng_tags.specs.Black.{black_at};
+ghost use Rattle.dng_tags.specs.Black.{black_at, row_by_row};
 ghost use Rattle.dng_tags.specs.Facts.{AreRanged};
-ghost use Rattle.linearise.specs.Blacks.{area_of};
 ghost use Rattle.linearise.specs.inner.Blacks.{IsAreaSize};
 ghost use Rattle.linearise.specs.Parameters.{IsArea, linear_of, same_parameters};
 ghost use Rattle.linearise.specs.Settings.{with_black};
@@ -49,7 +48,7 @@ impl Parts {
         ensures cols { IfOk result (λ parts. (seen parts).cols ≡ cols) }
         ensures table { IfOk result (λ parts. (seen parts).table ≡ levels.now.table) }
         ensures blacks { IfOk result (λ parts. (seen parts).blacks
-            ≡ area_of rows cols (black_at (with_black levels.now black))) }
+            ≡ row_by_row rows cols (black_at (with_black levels.now black))) }
         ensures span { IfOk result (λ parts. (seen parts).span ≡ pos span) }
     {
         let blacks = blacks_of(alloc, levels, rows, cols, black)?;

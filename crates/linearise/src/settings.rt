@@ -1,9 +1,8 @@
 //! Levels under settings.
 
 ghost use Rattle.std.specs.Prelude.{◌≡◌, ◌*◌, ◌≤◌, ◌^◌, pos, neg_ℤ, ◌≤ℤ◌, ◌<ℤ◌, [], ◌∷◌, IfOk};
-ghost use Rattle.dng_tags.specs.Black.{black_at, greatest_black, span_of};
+ghost use Rattle.dng_tags.specs.Black.{black_at, greatest_black, row_by_row, span_of};
 ghost use Rattle.dng_tags.specs.Facts.{AreRanged};
-ghost use Rattle.linearise.specs.Blacks.{area_of};
 ghost use Rattle.linearise.specs.inner.Blacks.{IsAreaSize};
 ghost use Rattle.linearise.specs.inner.Held.{blacks_in};
 ghost use Rattle.linearise.specs.Settings.{under, white_under, with_black};
@@ -72,7 +71,7 @@ pub(crate) fn blacks_of(
     ensures rows { IfOk result (λ blacks. blacks.rows ≡ rows) }
     ensures cols { IfOk result (λ blacks. blacks.cols ≡ cols) }
     ensures blacks { IfOk result (λ blacks. blacks_in blacks
-        ≡ area_of rows cols (black_at (with_black levels.now black))) }
+        ≡ row_by_row rows cols (black_at (with_black levels.now black))) }
 {
     match black {
         Some(black) => {
