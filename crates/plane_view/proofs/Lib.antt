@@ -1,5 +1,6 @@
 pub mod Agreement
 pub mod Crops
+pub mod Cuts
 pub mod Growth
 pub mod Limits
 pub mod Loans

@@ -1,4 +1,5 @@
 pub mod inner
+pub mod Cuts
 pub mod Lent
 pub mod Plane
 pub mod Rectangles

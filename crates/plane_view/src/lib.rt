@@ -3,6 +3,7 @@
 //! A plane has its samples row by row, the samples of a pixel side by side. No call takes memory.
 #![tactic(auto)]
 
+mod cutting;
 mod tiles;
 mod views;
 

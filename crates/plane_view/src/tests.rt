@@ -84,6 +84,29 @@ fn measures_and_shifts(rt: HostRuntime) {
 }
 
 #[test]
+fn cuts(rt: HostRuntime) {
+    let shape = Shape {
+        rows: 5,
+        cols: 7,
+        planes: 1,
+    };
+    assert_eq!(rt; shape.part_count(2, 3), 9);
+    assert_eq!(rt; shape.part_count(5, 7), 1);
+    let cases = [
+        (0, rect(0, 0, 2, 3)),
+        (2, rect(0, 6, 2, 7)),
+        (4, rect(2, 3, 4, 6)),
+        (8, rect(4, 6, 5, 7)),
+    ];
+    for (k, part) in cases {
+        if k < 9 {
+            assert_eq!(rt; shape.part(2, 3, k), part);
+        }
+    }
+    assert_eq!(rt; shape.part(MAX, MAX, 0), shape.rect());
+}
+
+#[test]
 fn reflects(rt: HostRuntime) {
     for (i, row) in [(-2, 2), (-1, 1), (0, 0), (3, 3), (4, 2), (5, 1)] {
         if i >= -2 && i <= 5 {
