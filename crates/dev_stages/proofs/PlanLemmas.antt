@@ -5,14 +5,11 @@ use Rattle.std.proofs.Common.{subst, arith, ◌↔◌, ◌≢◌}
 use Rattle.std.proofs.lemmas.List.{append_assoc}
 use Rattle.std.proofs.lemmas.Bool.{cond-false, cond-true}
 use Rattle.std.proofs.lemmas.Int.{ints}
-use Rattle.std.proofs.lemmas.List.FromFn.{fill_by_all}
 use Rattle.stage_chain.specs.Chains.{TakeInTurn}
 use Rattle.opcode_list.specs.Trims.{IsPartOf, left_after}
 use Rattle.dng_tags.specs.Facts.{IsPlannable}
 use Rattle.dng_tags.specs.Listed.{after_list1, after_list2, area_shape}
 use Rattle.dng_tags.specs.declared.record.Frame.{Frame}
-use Rattle.tone_table.specs.declared.Curve.{Curve}
-use Rattle.tone_table.specs.Tones.{IsTableOf, toned_at}
 use Rattle.dev_settings.specs.declared.settings.Settings.{Settings}
 use Rattle.plane_view.specs.Plane.{coloured}
 use Rattle.plane_view.specs.Rectangles.{height, width}
@@ -26,17 +23,11 @@ use Rattle.dev_stages.specs.Changes.{linear_or}
 use Rattle.dev_stages.specs.Listed.{listed}
 use Rattle.dev_stages.specs.Members.{shaped_of, takes_of}
 use Rattle.dev_stages.specs.inner.Faults.{linear_fault}
-use Rattle.dev_stages.specs.Plans.{balance_stage, curve_table, demosaic_stage, in_order, levels_under, linear_stage}
+use Rattle.dev_stages.specs.Plans.{balance_stage, demosaic_stage, in_order, levels_under, linear_stage}
 use Rattle.dev_stages.specs.Plans.{planned, span_under, stages_with, tone_stage}
 use Rattle.dev_stages.specs.declared.fault.PlanFault.TheVariants as fault
 use Rattle.dev_stages.proofs.ChangeLemmas.{has, last_four}
 use Rattle.dev_stages.proofs.ListLemmas.{all_run, left_part, listed_then, planes_left}
-
--- a table of a curve is the curve's
-pub table_is : (curve : Curve) (table : List ℕ) → IsTableOf curve table → table ≡ curve_table curve
-unfolding curve_table
-table_is curve table is =
-    fill_by_all (toned_at curve) table 65536 0 is.long is.entries
 
 -- the stages behind list 3
 abbrev behind_list3 : Frame → Settings → List ℤ → List DevStage

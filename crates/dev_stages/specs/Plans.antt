@@ -1,8 +1,7 @@
 -- The stages of a development in their order (DNG 1.6, chapters 5 and 6, for linear values and colours). The order, the
 -- settings and the refusals are this project's own.
-use Rattle.std.specs.Prelude.{ℕ, ◌==◌, ◌++◌, if◌then◌else◌, ℤ, pos, int_lt, List, [], ◌∷◌, map, slice_index, Option}
+use Rattle.std.specs.Prelude.{ℕ, ◌==◌, ◌++◌, if◌then◌else◌, ℤ, pos, int_lt, List, [], ◌∷◌, slice_index, Option}
 use Rattle.std.specs.Prelude.{None, Some, option_map, unwrap_or, Result, Ok, Err}
-use Rattle.std.specs.List.{range_with_len}
 use Rattle.std.specs.Option.{option_map_or}
 use Rattle.plane_view.specs.Rectangles.{height, width}
 use Rattle.dng_tags.specs.Black.{span_of}
@@ -17,8 +16,7 @@ use Rattle.malvar.specs.declared.pattern.Pattern.TheVariants.{RedGreenGreenBlue,
 use Rattle.malvar.specs.declared.pattern.Pattern.TheVariants.{GreenBlueRedGreen}
 use Rattle.malvar.specs.declared.stage.Demosaic.{Demosaic as AnyDemosaic}
 use Rattle.colour_matrix.specs.Matrices.{camera_matrix, forward_matrix}
-use Rattle.tone_table.specs.declared.Curve.{Curve}
-use Rattle.tone_table.specs.Tones.{toned_at}
+use Rattle.tone_table.specs.Tones.{curve_table}
 use Rattle.dev_settings.specs.declared.settings.MatrixChoice.{MatrixChoice}
 use Rattle.dev_settings.specs.declared.settings.MatrixChoice.TheVariants as choice
 use Rattle.dev_settings.specs.declared.settings.Settings.{Settings}
@@ -39,10 +37,6 @@ pattern_of cfa =
 -- demosaicing of a kind under a pattern
 abbrev pub mosaic : Kind → List ℕ → AnyDemosaic
 mosaic kind cfa = record { kind = kind; pattern = pattern_of cfa }
-
--- the table of a curve
-unfoldable pub curve_table : Curve → List ℕ
-curve_table curve = map (toned_at curve) (range_with_len 0 65536)
 
 -- the frame's second forward matrix, else its first, else none
 abbrev pub auto_matrix : Colour → List ℤ

@@ -1,7 +1,8 @@
 -- Tone curves and their tables: this project's own.
-use Rattle.std.specs.Prelude.{◌≡◌, ℕ, zero, suc, ◌*◌, ◌<◌, Bool, nat_le, nat_lt, if◌then◌else◌, ℤ, pos, negsuc, ◌+ℤ◌}
-use Rattle.std.specs.Prelude.{◌-ℤ◌, ◌*ℤ◌, List, [], ◌∷◌, length, slice_index}
+use Rattle.std.specs.Prelude.{ℕ, zero, suc, ◌*◌, Bool, nat_le, nat_lt, if◌then◌else◌, ℤ, pos, negsuc, ◌+ℤ◌, ◌-ℤ◌}
+use Rattle.std.specs.Prelude.{◌*ℤ◌, List, [], ◌∷◌, map, slice_index}
 use Rattle.std.specs.Int.{int_div_euclid}
+use Rattle.std.specs.List.{range_with_len}
 use Rattle.plane_view.specs.Plane.{Plane, sample, plane_of}
 use Rattle.tone_table.specs.declared.Curve.{Curve}
 use Rattle.tone_table.specs.declared.Curve.TheVariants.{Linear, Root, Knots}
@@ -39,9 +40,8 @@ toned_at Root x = root_of (x * 65535)
 toned_at (Knots points) x = knots_at points x
 
 -- the table of a curve: what it makes of each sample
-pub record IsTableOf (curve : Curve) (table : List ℕ) : Type 0 where
-  pub long : length table ≡ 65536
-  pub entries : (x : ℕ) → x < 65536 → slice_index table x ≡ toned_at curve x
+unfoldable pub curve_table : Curve → List ℕ
+curve_table curve = map (toned_at curve) (range_with_len 0 65536)
 
 -- the entry of a table for the sample at row r, column c of plane p, from the samples by place
 abbrev pub entry_at : List ℕ → (ℕ → ℕ → ℕ → ℕ) → ℕ → ℕ → ℕ → ℕ

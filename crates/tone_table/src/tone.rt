@@ -4,7 +4,7 @@ ghost use Rattle.std.specs.Prelude.{◌≡◌, ℕ, ◌+◌, ◌-◌, ◌*◌, �
 ghost use Rattle.plane_view.specs.Lent.{HasRowPart, sample_at};
 ghost use Rattle.plane_view.specs.Rectangles.{width};
 ghost use Rattle.plane_view.specs.Rows.{IsRowOf};
-ghost use Rattle.tone_table.specs.Tones.{IsTableOf, entry_at, toned};
+ghost use Rattle.tone_table.specs.Tones.{curve_table, entry_at, toned};
 ghost use Rattle.tone_table.specs.inner.Fills.{HasLookups};
 
 use crate::Curve;
@@ -41,7 +41,7 @@ impl Tone {
     ///
     /// `AllocError` where there is no memory for the table.
     pub fn new(alloc: Global, curve: &Curve) -> Result<Tone, AllocError>
-        ensures { IfOk result (λ tone. IsTableOf curve.now tone) }
+        ensures { IfOk result (λ tone. tone ≡ curve_table curve.now) }
     {
         let mut table = zeros(alloc, ENTRIES)?;
         fill(curve, &mut table);
@@ -66,9 +66,10 @@ fn zeros(alloc: Global, count: usize) -> Result<Vec<u16>, AllocError>
 }
 
 /// Fills the table of a curve.
+#[tactic(auto, using(crate::proofs::Tables::table_is))]
 fn fill(curve: &Curve, table: &mut [u16])
     requires { length table.old ≡ 65536 }
-    ensures { IsTableOf curve.now table.new }
+    ensures { table.new ≡ curve_table curve.now }
 {
     match curve {
         Curve::Linear => fill_linear(table),
