@@ -1,6 +1,6 @@
 -- The stages of a development in their order (DNG 1.6, chapters 5 and 6, for linear values and colours). The order, the
 -- settings and the refusals are this project's own.
-use Rattle.std.specs.Prelude.{ℕ, ◌==◌, ◌++◌, if◌then◌else◌, ℤ, pos, int_lt, List, [], ◌∷◌, slice_index, Option}
+use Rattle.std.specs.Prelude.{ℕ, ◌++◌, if◌then◌else◌, ℤ, pos, int_lt, List, [], ◌∷◌, Option}
 use Rattle.std.specs.Prelude.{None, Some, option_map, unwrap_or, Result, Ok, Err}
 use Rattle.std.specs.Option.{option_map_or}
 use Rattle.plane_view.specs.Rectangles.{height, width}
@@ -11,9 +11,7 @@ use Rattle.dng_tags.specs.declared.record.Levels.{Levels}
 use Rattle.linearise.specs.Parameters.{parameters}
 use Rattle.linearise.specs.Settings.{under}
 use Rattle.malvar.specs.declared.Kind.{Kind}
-use Rattle.malvar.specs.declared.pattern.Pattern.{Pattern}
-use Rattle.malvar.specs.declared.pattern.Pattern.TheVariants.{RedGreenGreenBlue, BlueGreenGreenRed, GreenRedBlueGreen}
-use Rattle.malvar.specs.declared.pattern.Pattern.TheVariants.{GreenBlueRedGreen}
+use Rattle.malvar.specs.Mosaics.{with_colours}
 use Rattle.malvar.specs.declared.stage.Demosaic.{Demosaic as AnyDemosaic}
 use Rattle.colour_matrix.specs.Matrices.{camera_matrix, forward_matrix}
 use Rattle.tone_table.specs.Tones.{curve_table}
@@ -26,17 +24,9 @@ use Rattle.dev_stages.specs.declared.fault.PlanFault.TheVariants as fault
 use Rattle.dev_stages.specs.declared.stage.DevStage.{DevStage}
 use Rattle.dev_stages.specs.declared.stage.DevStage.TheVariants.{Balance, Crop, Demosaic, Linearise, Matrix, Tone}
 
--- the pattern with these colours, one of the four
-abbrev pub pattern_of : List ℕ → Pattern
-pattern_of cfa =
-    if slice_index cfa 0 == 0 then RedGreenGreenBlue
-    else if slice_index cfa 0 == 2 then BlueGreenGreenRed
-    else if slice_index cfa 1 == 0 then GreenRedBlueGreen
-    else GreenBlueRedGreen
-
 -- demosaicing of a kind under a pattern
 abbrev pub mosaic : Kind → List ℕ → AnyDemosaic
-mosaic kind cfa = record { kind = kind; pattern = pattern_of cfa }
+mosaic kind cfa = record { kind = kind; pattern = with_colours cfa }
 
 -- the frame's second forward matrix, else its first, else none
 abbrev pub auto_matrix : Colour → List ℤ

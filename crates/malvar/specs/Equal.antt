@@ -1,6 +1,5 @@
 -- When stages of demosaicing are equal, and that such are alike: this project's own.
-use Rattle.std.specs.Prelude.{nat_eq, if◌then◌else◌, slice_index}
-use Rattle.std.proofs.Common.{◌≡◌, ℕ, List, true, refl, ap, subst, sym, ◌∙◌, Decides, rules}
+use Rattle.std.proofs.Common.{◌≡◌, true, refl, ap, subst, sym, ◌∙◌, Decides, rules}
 use Rattle.plane_view.specs.Plane.{coloured}
 use Rattle.plane_view.specs.Rectangles.{grown, whole_rect}
 use Rattle.stage_core.specs.Stages.{AreAlike}
@@ -11,18 +10,10 @@ use Rattle.malvar.specs.declared.pattern.Pattern.TheVariants.{GreenBlueRedGreen}
 use Rattle.malvar.specs.contracts.stage.DemosaicPartialEq.TheImpl.{ghosts}
 use Rattle.malvar.specs.declared.Kind.{Kind}
 use Rattle.malvar.specs.Demosaic.{table_of, reach_of, demosaiced}
-use Rattle.malvar.specs.Mosaics.{IsMosaic, colours_of, kind_of, cfa_of}
+use Rattle.malvar.specs.Mosaics.{IsMosaic, colours_of, with_colours, kind_of, cfa_of}
 
--- the pattern of some colours
-with_colours : List ℕ → Pattern
-with_colours cfa =
-    if nat_eq (slice_index cfa 0) 0 then RedGreenGreenBlue
-    else if nat_eq (slice_index cfa 0) 2 then BlueGreenGreenRed
-    else if nat_eq (slice_index cfa 1) 0 then GreenRedBlueGreen
-    else GreenBlueRedGreen
-
+-- a pattern is the one with its colours
 with_own : (p : Pattern) → with_colours (colours_of p) ≡ p
-unfolding with_colours
 with_own RedGreenGreenBlue = refl
 with_own BlueGreenGreenRed = refl
 with_own GreenRedBlueGreen = refl

@@ -1,5 +1,5 @@
 -- Demosaicing as a stage: this project's own.
-use Rattle.std.specs.Prelude.{◌≡◌, ℕ, ◌≤◌, List, [], ◌∷◌}
+use Rattle.std.specs.Prelude.{◌≡◌, ℕ, ◌≤◌, ◌==◌, if◌then◌else◌, List, [], ◌∷◌, slice_index}
 use Rattle.plane_view.specs.declared.Shape.{Shape}
 use Rattle.malvar.specs.declared.Kind.{Kind}
 use Rattle.malvar.specs.declared.pattern.Pattern.{Pattern}
@@ -19,6 +19,14 @@ colours_of RedGreenGreenBlue = 0 ∷ 1 ∷ 1 ∷ 2 ∷ []
 colours_of BlueGreenGreenRed = 2 ∷ 1 ∷ 1 ∷ 0 ∷ []
 colours_of GreenRedBlueGreen = 1 ∷ 0 ∷ 2 ∷ 1 ∷ []
 colours_of GreenBlueRedGreen = 1 ∷ 2 ∷ 0 ∷ 1 ∷ []
+
+-- the pattern with these colours, one of the four
+abbrev pub with_colours : List ℕ → Pattern
+with_colours cfa =
+    if slice_index cfa 0 == 0 then RedGreenGreenBlue
+    else if slice_index cfa 0 == 2 then BlueGreenGreenRed
+    else if slice_index cfa 1 == 0 then GreenRedBlueGreen
+    else GreenBlueRedGreen
 
 -- the kind of demosaicing: the paper's weights or the nearest samples
 abbrev pub kind_of : Demosaic → Kind
