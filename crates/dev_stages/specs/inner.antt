@@ -1,2 +1,2 @@
--- Words for the contracts between functions of this crate.
+-- Definitions for the contracts between functions of this crate.
 pub mod Faults

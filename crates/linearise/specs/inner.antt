@@ -1,4 +1,4 @@
--- Words for the contracts between functions of this crate.
+-- Definitions for the contracts between functions of this crate.
 pub mod Blacks
 pub mod Rows
 pub mod Scales
