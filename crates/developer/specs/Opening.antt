@@ -116,7 +116,7 @@ opened_next chosen None told = None
 opened_next chosen (Some (Err refusal)) told = Some (Err refusal)
 opened_next chosen (Some (Ok file)) told = opened_named chosen file chosen.settings told
 
--- what the options call for; None of the options stands for words that aren't accepted
+-- what the options call for; None stands for words that aren't accepted
 abbrev pub opened_for : Option Options → (List ℕ → Option (List ℕ)) → Option Opening
 opened_for None told = Some refused_words
 opened_for (Some chosen) told = opened_next chosen (told_frame (told chosen.frame)) told
