@@ -12,19 +12,11 @@ use Rattle.std.proofs.Math.Nat.{le_refl}
 use Rattle.std.proofs.lemmas.List.{take_at, length-take, length-drop, length-append}
 use Rattle.std.proofs.lemmas.List.Folds.{find_at}
 use Rattle.std.proofs.lemmas.List.Sums.{passes_at_first}
-use Rattle.std.proofs.lemmas.Option.{slice_get-get_or, slice_get_past, slice_get_within, get_or_from_slice_get}
+use Rattle.std.proofs.lemmas.Option.{slice_get_past, slice_get_read, slice_get_within, get_or_from_slice_get}
 use Rattle.raw_io.specs.Outside.{Rises, ReadsAt}
 use Rattle.raw_io.specs.Memory.{CallNumbers, called, next_fails, one_more, MemoryFile, MemoryFiles, is_named, file_of}
 use Rattle.raw_io.specs.Memory.{with_file, contents_of, faults_of, with_contents, with_fault, files_failed}
 use Rattle.raw_io.specs.inner.Places.{place_of}
-
-pub file_at_place : (name : List ℕ) (files : List MemoryFile) (d : MemoryFile) → place_of name files < length files
-    → file_of name files ≡ Some (get_or files (place_of name files) d)
-file_at_place name files d within =
-    find_at (is_named name) files ∙ slice_get-get_or files (place_of name files) d within
-
-pub no_file : (name : List ℕ) (files : List MemoryFile) → length files ≤ place_of name files → file_of name files ≡ None
-no_file name files past = find_at (is_named name) files ∙ slice_get_past files (place_of name files) past
 
 pub set_place : (new : MemoryFile) (files : List MemoryFile) → place_of new.name files < length files
     → set files (place_of new.name files) new ≡ with_file new files
@@ -201,12 +193,13 @@ failed_grows name all other others_grow file_grows = at_file (file_of name all.f
 pub there : (name : List ℕ) (files : List MemoryFile) (place : ℕ) (file : MemoryFile) → place ≡ place_of name files
     → place < length files → file ≡ get_or files place file → file_of name files ≡ Some file
 there name files place file at within is =
-    file_at_place name files file (omega (arith, at)) ∙ ap (λ (k : ℕ). Some (get_or files k file)) (sym at)
-    ∙ ap (λ (f : MemoryFile). Some f) (sym is)
+    find_at (is_named name) files ∙ ap (λ (k : ℕ). slice_get files k) (sym at)
+    ∙ slice_get_read files (length files) place file refl within is
 
 pub absent : (name : List ℕ) (files : List MemoryFile) (place : ℕ) → place ≡ place_of name files → length files ≤ place
     → file_of name files ≡ None
-absent name files place at past = no_file name files (omega (arith, at))
+absent name files place at past =
+    find_at (is_named name) files ∙ ap (λ (k : ℕ). slice_get files k) (sym at) ∙ slice_get_past files place past
 
 pub set_there : (name : List ℕ) (files : List MemoryFile) (place : ℕ) (new : MemoryFile) → place ≡ place_of name files
     → place < length files → new.name ≡ name → set files place new ≡ with_file new files
