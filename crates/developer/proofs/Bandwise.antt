@@ -1,14 +1,15 @@
 -- The bands of a rectangle, and the session after some of them.
 use Rattle.std.proofs.Common.{◌≡◌, ℕ, zero, suc, ◌+◌, ◌-◌, ◌*◌, ◌/◌, ◌<◌, ◌≤◌, max, min, ◌⊎◌, inl, inr, Ok, List}
 use Rattle.std.proofs.Common.{[], ◌∷◌, ◌++◌, map, refl, sym, ◌∙◌, ap, subst, arith}
+use Rattle.std.specs.Int.{div_ceil}
 use Rattle.std.specs.List.{range_with_len}
 use Rattle.std.proofs.Math.Nat.{mul-le-mul_right}
+use Rattle.std.proofs.lemmas.Grind.{div_ceil_times}
 use Rattle.std.proofs.lemmas.List.{append-nil}
 use Rattle.std.proofs.lemmas.List.FromFn.{map-range_with_len_more}
-use Rattle.std.proofs.lemmas.Nat.{div-add-mod', le-div, mod_below}
+use Rattle.std.proofs.lemmas.Nat.{div-add-mod', mod_below}
 use Rattle.plane_view.specs.declared.Rect.{Rect}
-use Rattle.stage_deps.specs.Grids.{cells_along}
-use Rattle.stage_deps.proofs.GridCells.{cell_begins}
+use Rattle.plane_view.proofs.Cuts.{part_begins, part_of_place}
 use Rattle.region_session.specs.Sessions.{Opened as Session}
 use Rattle.dev_stages.specs.declared.stage.DevStage.{DevStage}
 use Rattle.developer.specs.Answered.{AreMade, IsRefused, MadeUpTo}
@@ -122,7 +123,7 @@ module _ (side : ℕ) (rect : Rect) where
   bands_to k = map (band_at side rect) (range_with_len (rect.top / side) (k - rect.top / side))
 
   abbrev pub bands_from : ℕ → List Rect
-  bands_from k = map (band_at side rect) (range_with_len k (cells_along rect.bottom side - k))
+  bands_from k = map (band_at side rect) (range_with_len k (div_ceil rect.bottom side - k))
 
   -- the row from which a row of cells shows in the rectangle, or its bottom
   abbrev pub row_at : ℕ → ℕ
@@ -158,19 +159,19 @@ module _ (side : ℕ) (rect : Rect) where
       ∙ map-range_with_len_more (band_at side rect) (rect.top / side) (k - rect.top / side) k (omega (arith, low))
 
   -- a band and those below it
-  pub bands_from_next : (k : ℕ) → k < cells_along rect.bottom side
+  pub bands_from_next : (k : ℕ) → k < div_ceil rect.bottom side
       → bands_from side rect k ≡ band_at side rect k ∷ bands_from side rect (k + 1)
   bands_from_next k low =
-      ap (λ (n : ℕ). map (band_at side rect) (range_with_len k n)) (let more : cells_along rect.bottom side - k
-      ≡ suc (cells_along rect.bottom side - (k + 1)) = omega (arith, low) in more)
+      ap (λ (n : ℕ). map (band_at side rect) (range_with_len k n)) (let more : div_ceil rect.bottom side - k
+      ≡ suc (div_ceil rect.bottom side - (k + 1)) = omega (arith, low) in more)
 
   -- those above a row of cells, and those from it on
-  pub bands_split : (k : ℕ) → rect.top / side ≤ k → k ≤ cells_along rect.bottom side → bands_to side rect k
+  pub bands_split : (k : ℕ) → rect.top / side ≤ k → k ≤ div_ceil rect.bottom side → bands_to side rect k
       ++ bands_from side rect k ≡ bands_of side rect
   bands_split k low high =
       let n : ℕ = k - rect.top / side in
-      let m : ℕ = cells_along rect.bottom side - k in
-      let all : cells_along rect.bottom side - rect.top / side ≡ n + m = omega (arith, low, high) in
+      let m : ℕ = div_ceil rect.bottom side - k in
+      let all : div_ceil rect.bottom side - rect.top / side ≡ n + m = omega (arith, low, high) in
       let at : rect.top / side + n ≡ k = omega (arith, low) in
       sym (ap (λ (j : ℕ). map (band_at side rect) (range_with_len (rect.top / side) j)) all
       ∙ (ap (map (band_at side rect)) (counted (rect.top / side) n m)
@@ -179,12 +180,8 @@ module _ (side : ℕ) (rect : Rect) where
 
   module _ (some : 0 < side) (order : rect.top < rect.bottom) where
     -- the rectangle meets at least one row of cells
-    pub first_below : rect.top / side < cells_along rect.bottom side
-    first_below =
-        let more : rect.top / side + 1 ≤ cells_along rect.bottom side =
-        le-div (rect.top / side + 1) (rect.bottom + side - 1) side some
-        (omega (arith, div-add-mod' rect.top side, order)) in
-        omega (arith, more)
+    pub first_below : rect.top / side < div_ceil rect.bottom side
+    first_below = part_of_place rect.bottom side rect.top some order
 
     -- the first one has its top row
     pub row_at_first : row_at side rect (rect.top / side) ≡ rect.top
@@ -201,21 +198,21 @@ module _ (side : ℕ) (rect : Rect) where
         )
 
     -- a row of cells begins above the bottom
-    pub row_before : (k : ℕ) → k < cells_along rect.bottom side → k * side < rect.bottom
-    row_before k high = cell_begins rect.bottom side k some high
+    pub row_before : (k : ℕ) → k < div_ceil rect.bottom side → k * side < rect.bottom
+    row_before k high = part_begins rect.bottom side k some high
 
     -- a band is the rows from there to the next
-    pub band_top : (k : ℕ) → rect.top / side ≤ k → k < cells_along rect.bottom side
+    pub band_top : (k : ℕ) → rect.top / side ≤ k → k < div_ceil rect.bottom side
         → (band_at side rect k).top ≡ row_at side rect k
     band_top k low high = omega (arith, row_before k high, order)
 
-    pub band_bottom : (k : ℕ) → rect.top / side ≤ k → k < cells_along rect.bottom side
+    pub band_bottom : (k : ℕ) → rect.top / side ≤ k → k < div_ceil rect.bottom side
         → (band_at side rect k).bottom ≡ row_at side rect (k + 1)
     band_bottom k low high =
         let next : (k + 1) * side ≡ k * side + side = omega arith in
         rw next (omega (arith, row_after k low, row_before k high))
 
-    pub band_order : (k : ℕ) → rect.top / side ≤ k → k < cells_along rect.bottom side
+    pub band_order : (k : ℕ) → rect.top / side ≤ k → k < div_ceil rect.bottom side
         → (band_at side rect k).top < (band_at side rect k).bottom
     band_order k low high = omega (arith, row_after k low, row_before k high, order, some)
 
@@ -225,14 +222,13 @@ module _ (side : ℕ) (rect : Rect) where
     band_high k = omega arith
 
     -- the last one has its bottom
-    pub row_at_end : row_at side rect (cells_along rect.bottom side) ≡ rect.bottom
+    pub row_at_end : row_at side rect (div_ceil rect.bottom side) ≡ rect.bottom
     row_at_end =
-        let last : rect.bottom ≤ cells_along rect.bottom side * side =
-        omega (arith, div-add-mod' (rect.bottom + side - 1) side, mod_below (rect.bottom + side - 1) side some) in
-        omega (arith, last)
+        let last = div_ceil_times rect.bottom side some in
+        omega (arith, last.0)
 
   module _ (old mid : Session DevStage) (before between k : ℕ) (low : rect.top / side ≤ k)
-      (high : k < cells_along rect.bottom side) (made : AreMade old mid (bands_to side rect k) before between)
+      (high : k < div_ceil rect.bottom side) (made : AreMade old mid (bands_to side rect k) before between)
       (new : Session DevStage) (after : ℕ) where
     -- a band more
     pub band_made : AreMade mid new (band_at side rect k ∷ []) between after
@@ -276,7 +272,7 @@ pub record IsBand (side : ℕ) (rect : Rect) (k : ℕ) (band : Rect) : Type 0 wh
   pub high : band.bottom - band.top ≤ min (rect.bottom - rect.top) side
 
 pub band_is : (side : ℕ) (rect : Rect) (k : ℕ) (band : Rect) → 0 < side → rect.top < rect.bottom → rect.top / side ≤ k
-    → k < cells_along rect.bottom side → band ≡ band_at side rect k → IsBand side rect k band
+    → k < div_ceil rect.bottom side → band ≡ band_at side rect k → IsBand side rect k band
 band_is side rect k band some order low high is =
     let top : band.top ≡ (band_at side rect k).top = ap (λ (r : Rect). r.top) is in
     let bottom : band.bottom ≡ (band_at side rect k).bottom = ap (λ (r : Rect). r.bottom) is in

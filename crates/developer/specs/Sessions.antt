@@ -2,10 +2,10 @@
 -- counts, its keys and its stamps. It knows no samples that are kept. This is this project's own.
 use Rattle.std.specs.Prelude.{◌≡◌, ℕ, ◌+◌, ◌-◌, ◌*◌, ◌/◌, List, [], ◌∷◌, Bool, false, not, map, max, min, slice_get}
 use Rattle.std.specs.Prelude.{if◌then◌else◌, Option, None, Some}
+use Rattle.std.specs.Int.{div_ceil}
 use Rattle.std.specs.List.{range_with_len}
 use Rattle.plane_view.specs.declared.Rect.{Rect}
 use Rattle.stage_core.specs.Bases.{raised}
-use Rattle.stage_deps.specs.Grids.{cells_along}
 use Rattle.stage_deps.specs.Stamping.{Stamped, changed}
 use Rattle.region_session.specs.Sessions.{Opened as Session, keys_after, missing_fetches, missing_runs}
 use Rattle.dev_settings.specs.declared.settings.Settings.{Settings}
@@ -54,7 +54,7 @@ band_at side rect k = record rect { top = max rect.top (k * side); bottom = min 
 -- the bands of a rectangle, from the top: one for each row of cells that it meets
 abbrev pub bands_of : (side : ℕ) → Rect → List Rect
 bands_of side rect = map (band_at side rect)
-    (range_with_len (rect.top / side) (cells_along rect.bottom side - rect.top / side))
+    (range_with_len (rect.top / side) (div_ceil rect.bottom side - rect.top / side))
 
 -- one stage becomes another: it isn't of the same kind with equal parameters
 abbrev pub is_another : Option DevStage → Option DevStage → Bool

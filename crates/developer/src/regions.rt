@@ -146,7 +146,7 @@ fn write_bands<B: Base, O: Sink, L: Ledger>(
 {
     let side = session.side();
     let mut written = 0;
-    for k in rect.top / side..(rect.bottom + side - 1) / side {
+    for k in rect.top / side..rect.bottom.div_ceil(side) {
         let band = band_at(rect, k, side);
         written = write_band(session, band, format, piece, samples, written, out, work)?;
     }

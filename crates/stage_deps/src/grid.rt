@@ -1,11 +1,12 @@
 //! Grids of square cells.
 
-ghost use Rattle.std.specs.Prelude.{◌≡◌, ℕ, ◌+◌, ◌-◌, ◌/◌, ◌<◌, ◌≤◌, ◌^◌, length, slice_get, Some, IfOk, OnOk};
+ghost use Rattle.std.specs.Prelude.{◌≡◌, ◌<◌, ◌≤◌, ◌^◌, length, slice_get, Some, IfOk, OnOk};
 ghost use Rattle.std.specs.List.{All};
+ghost use Rattle.plane_view.specs.Cuts.{part, part_count};
 ghost use Rattle.plane_view.specs.Shapes.{IsShape};
 ghost use Rattle.stage_core.specs.Bases.{MakeUp};
 ghost use Rattle.stage_deps.specs.Cells.{cells_at, meeting};
-ghost use Rattle.stage_deps.specs.Grids.{cells_along, grid_cells, grid_count, grid_rect};
+ghost use Rattle.stage_deps.specs.Grids.{grid_cells};
 
 use crate::cells::{hull, meets_within};
 use plane_view::{Rect, Shape};
@@ -35,28 +36,20 @@ impl Grid {
 
     /// How many cells there are.
     pub fn count(&self) -> u32
-        ensures count { result ≡ grid_count self.now.shape self.now.side }
+        ensures count { result ≡ part_count self.now.shape self.now.side self.now.side }
         ensures some { 0 < result }
         ensures most { result ≤ 2 ^ 18 }
     {
-        along(self.shape.rows, self.side) * along(self.shape.cols, self.side)
+        self.shape.part_count(self.side, self.side)
     }
 
     /// The rectangle of cell `k`.
     pub fn rect(&self, k: u32) -> Rect
-        requires { k < grid_count self.now.shape self.now.side }
-        ensures rect { result ≡ grid_rect self.now.shape self.now.side k }
+        requires { k < part_count self.now.shape self.now.side self.now.side }
+        ensures rect { result ≡ part self.now.shape self.now.side self.now.side k }
         ensures cell { slice_get (grid_cells self.now.shape self.now.side) k ≡ Some result }
     {
-        let across = along(self.shape.cols, self.side);
-        let top = k / across * self.side;
-        let left = k % across * self.side;
-        Rect {
-            top,
-            left,
-            bottom: (top + self.side).min(self.shape.rows),
-            right: (left + self.side).min(self.shape.cols),
-        }
+        self.shape.part(self.side, self.side, k)
     }
 
     /// The rectangles of all cells. They make up the plane.
@@ -111,17 +104,4 @@ impl Grid {
         }
         Ok(())
     }
-}
-
-/// How many cells of this side a length takes.
-fn along(length: u32, side: u32) -> u32
-    requires some { 0 < length }
-    requires length { length ≤ 8192 }
-    requires least { 16 ≤ side }
-    requires most { side ≤ 512 }
-    ensures along { result ≡ cells_along length side }
-    ensures some { 0 < result }
-    ensures most { result ≤ 512 }
-{
-    (length + side - 1) / side
 }

@@ -1,10 +1,10 @@
 use Rattle.std.proofs.Common.{◌≡◌, ℕ, ◌-◌, ◌*◌, ◌/◌, ◌<◌, ◌≤◌, ◌++◌, [], ◌∷◌, ◌⊎◌, List, Ok, Err, refl, sym, ◌∙◌, ap}
 use Rattle.std.proofs.Common.{ap₂, subst, arith}
+use Rattle.std.specs.Int.{div_ceil}
 use Rattle.std.proofs.lemmas.Result.{err_from_is_err_and}
 use Rattle.plane_view.specs.Plane.{Plane, crop}
 use Rattle.plane_view.specs.declared.Rect.{Rect}
 use Rattle.stage_chain.specs.Chains.{whole_of}
-use Rattle.stage_deps.specs.Grids.{cells_along}
 use Rattle.dev_stages.specs.Members.{apply_of}
 use Rattle.dev_stages.specs.declared.stage.DevStage.{DevStage}
 use Rattle.image_out.specs.Image.{pixels_of}
@@ -51,7 +51,7 @@ write_band-requires-clause-within g c =
     let rect = c.args.rect in
     let k : ℕ = c.loop-k.k in
     let low : rect.top / side ≤ k = omega arith in
-    let high : k < cells_along rect.bottom side = omega arith in
+    let high : k < div_ceil rect.bottom side = omega (arith, c.div_ceil-k-end.ensures) in
     let band = c.band_at-band.result in
     let is = band_is side rect k band some c.requires.within.rows low high c.band_at-band.ensures in
     let made = c.loop-k.invariant.1 in
@@ -72,7 +72,7 @@ write_band-requires-clause-few g c =
     let rect = c.args.rect in
     let k : ℕ = c.loop-k.k in
     let low : rect.top / side ≤ k = omega arith in
-    let high : k < cells_along rect.bottom side = omega arith in
+    let high : k < div_ceil rect.bottom side = omega (arith, c.div_ceil-k-end.ensures) in
     let band = c.band_at-band.result in
     let is = band_is side rect k band some c.requires.within.rows low high c.band_at-band.ensures in
     let made = c.loop-k.invariant.1 in
@@ -93,7 +93,7 @@ returns-in_err-written-clause-writes g c =
     let rect = c.args.rect in
     let k : ℕ = c.loop-k.k in
     let low : rect.top / side ≤ k = omega arith in
-    let high : k < cells_along rect.bottom side = omega arith in
+    let high : k < div_ceil rect.bottom side = omega (arith, c.div_ceil-k-end.ensures) in
     let band = c.band_at-band.result in
     let is = band_is side rect k band some c.requires.within.rows low high c.band_at-band.ensures in
     let made = c.loop-k.invariant.1 in
@@ -123,7 +123,7 @@ returns-in_err-written-clause-left g c =
     let rect = c.args.rect in
     let k : ℕ = c.loop-k.k in
     let low : rect.top / side ≤ k = omega arith in
-    let high : k < cells_along rect.bottom side = omega arith in
+    let high : k < div_ceil rect.bottom side = omega (arith, c.div_ceil-k-end.ensures) in
     let band = c.band_at-band.result in
     let is = band_is side rect k band some c.requires.within.rows low high c.band_at-band.ensures in
     let made = c.loop-k.invariant.1 in
@@ -148,7 +148,7 @@ loop-k-preserved g c =
     let rect = c.args.rect in
     let k : ℕ = c.loop-k.k in
     let low : rect.top / side ≤ k = omega arith in
-    let high : k < cells_along rect.bottom side = omega arith in
+    let high : k < div_ceil rect.bottom side = omega (arith, c.div_ceil-k-end.ensures) in
     let band = c.band_at-band.result in
     let is = band_is side rect k band some c.requires.within.rows low high c.band_at-band.ensures in
     let made = c.loop-k.invariant.1 in
@@ -185,7 +185,7 @@ returns-in_err-write_piece-clause-writes g c =
     let some : 0 < side = omega (arith, c.side-side.ensures.least) in
     let rect = c.args.rect in
     let below = first_below side rect some c.requires.within.rows in
-    let end : c.loop-k.k ≡ cells_along rect.bottom side = omega (arith, below) in
+    let end : c.loop-k.k ≡ div_ceil rect.bottom side = omega (arith, below, c.div_ceil-k-end.ensures) in
     let so-far = c.loop-k.invariant.0 in
     let last : row_at side rect c.loop-k.k ≡ rect.bottom = ap (row_at side rect) end
     ∙ row_at_end side rect some c.requires.within.rows in
@@ -204,7 +204,7 @@ returns-in_err-write_piece-clause-left g c =
     let some : 0 < side = omega (arith, c.side-side.ensures.least) in
     let rect = c.args.rect in
     let below = first_below side rect some c.requires.within.rows in
-    let end : c.loop-k.k ≡ cells_along rect.bottom side = omega (arith, below) in
+    let end : c.loop-k.k ≡ div_ceil rect.bottom side = omega (arith, below, c.div_ceil-k-end.ensures) in
     let cause = (by_write c.in_err-write_piece.field-0.0).cause in
     rw (p.1, p.2)
     (all_made cause c.args.session.now c.loop-k.session (bands_of c.args.session.now.side rect) c.args.work.now
@@ -221,7 +221,7 @@ returns-clause-writes g c =
     let some : 0 < side = omega (arith, c.side-side.ensures.least) in
     let rect = c.args.rect in
     let below = first_below side rect some c.requires.within.rows in
-    let end : c.loop-k.k ≡ cells_along rect.bottom side = omega (arith, below) in
+    let end : c.loop-k.k ≡ div_ceil rect.bottom side = omega (arith, below, c.div_ceil-k-end.ensures) in
     let so-far = c.loop-k.invariant.0 in
     let last : row_at side rect c.loop-k.k ≡ rect.bottom = ap (row_at side rect) end
     ∙ row_at_end side rect some c.requires.within.rows in
@@ -237,7 +237,7 @@ returns-clause-made g c =
     let some : 0 < side = omega (arith, c.side-side.ensures.least) in
     let rect = c.args.rect in
     let below = first_below side rect some c.requires.within.rows in
-    let end : c.loop-k.k ≡ cells_along rect.bottom side = omega (arith, below) in
+    let end : c.loop-k.k ≡ div_ceil rect.bottom side = omega (arith, below, c.div_ceil-k-end.ensures) in
     subst (λ (s : ℕ). AreMade c.args.session.now c.loop-k.session (bands_of s rect) c.args.work.now c.loop-k.work)
     c.side-side.ensures.side
     (subst (λ (n : ℕ). AreMade c.args.session.now c.loop-k.session (bands_to side rect n) c.args.work.now c.loop-k.work)

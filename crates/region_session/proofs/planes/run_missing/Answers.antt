@@ -5,10 +5,11 @@ use Rattle.plane_view.specs.declared.Shape.{Shape}
 use Rattle.plane_view.specs.Plane.{Plane, crop}
 use Rattle.plane_view.specs.Rectangles.{LiesIn, area_of}
 use Rattle.plane_view.specs.Lent.{AgreesWith, Lent, part_of}
+use Rattle.plane_view.proofs.Cuts.{parts_length}
 use Rattle.stage_core.specs.Planes.{IsPart, IsPlane}
 use Rattle.stage_deps.specs.Cells.{cell_at}
 use Rattle.stage_deps.specs.Grids.{grid_cells}
-use Rattle.stage_deps.proofs.GridCells.{grid_length, grid_makes_up}
+use Rattle.stage_deps.proofs.GridCells.{grid_makes_up}
 use Rattle.kept_cells.specs.Kept.{size_of}
 use Rattle.kept_cells.proofs.Keeping.{absent_step, put_step}
 use Rattle.kept_cells.proofs.Lower.{put_others, put_right}
@@ -22,7 +23,7 @@ rect-cell-requires g c =
     omega (
       arith,
       c.requires.numbers c.loop-k.k-index 0 (omega arith),
-      grid_length c.args.grid.now.shape c.args.grid.now.side,
+      parts_length c.args.grid.now.shape c.args.grid.now.side c.args.grid.now.side,
     )
 
 pub run-requires-clause-cell : goal.run-requires-clause-cell

@@ -3,7 +3,7 @@ use Rattle.plane_view.specs.declared.Rect.{Rect}
 use Rattle.stage_deps.specs.Cells.{meeting_from}
 use Rattle.stage_deps.specs.Grids.{grid_cells}
 use Rattle.stage_deps.proofs.Coverage.{all_seen, meeting_less, meeting_more}
-use Rattle.stage_deps.proofs.GridCells.{grid_length}
+use Rattle.plane_view.proofs.Cuts.{parts_length}
 use Rattle.stage_deps.proofs.grid.Grid.meeting.Goals.{then-meets_within+in_ok-push, else-meets_within}
 use Rattle.stage_deps.proofs.grid.Grid.meeting.Goals as goal
 
@@ -31,4 +31,4 @@ pub returns : goal.returns
 returns c =
     let grid = c.args.self.now in
     all_seen (grid_cells grid.shape grid.side) c.args.rects.now c.loop-k.k c.loop-k.numbers.items c.loop-k.invariant
-    (omega (arith, grid_length grid.shape grid.side, c.count-k-end.ensures.count))
+    (omega (arith, parts_length grid.shape grid.side grid.side, c.count-k-end.ensures.count))

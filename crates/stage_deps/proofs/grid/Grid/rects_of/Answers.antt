@@ -4,14 +4,14 @@ use Rattle.plane_view.specs.declared.Rect.{Rect}
 use Rattle.stage_deps.specs.Cells.{cell_at, no_rect}
 use Rattle.stage_deps.specs.Grids.{grid_cells}
 use Rattle.stage_deps.proofs.Coverage.{cells_more}
-use Rattle.stage_deps.proofs.GridCells.{grid_length}
+use Rattle.plane_view.proofs.Cuts.{parts_length}
 use Rattle.stage_deps.proofs.grid.Grid.rects_of.Goals as goal
 
 pub rect-requires : goal.rect-requires
 rect-requires c = omega (
   arith,
   c.requires c.loop-k.k-index 0 (omega arith),
-  grid_length c.args.self.now.shape c.args.self.now.side,
+  parts_length c.args.self.now.shape c.args.self.now.side c.args.self.now.side,
 )
 
 pub loop-k-preserved : goal.loop-k-preserved
