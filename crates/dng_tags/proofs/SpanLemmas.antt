@@ -1,21 +1,18 @@
 -- The greatest black level, by the places of the pattern.
 use Rattle.std.proofs.Common.{◌≡◌, ℕ, zero, suc, ◌+◌, ◌*◌, ◌/◌, ◌%◌, ◌<◌, ◌≤◌, min, ℤ, pos, inl, inr, List, [], ◌∷◌}
-use Rattle.std.proofs.Common.{length, get_or, map, true, false, cond, refl, ◌∙◌, ap, arith}
+use Rattle.std.proofs.Common.{length, get_or, map, true, false, cond, refl, ◌∙◌, ap, subst, sym, arith}
 use Rattle.std.specs.Prelude.{◌+ℤ◌, ◌≤ℤ◌, int_lt}
 use Rattle.std.specs.Int.{int_max}
 use Rattle.std.specs.List.{range_with_len}
 use Rattle.std.proofs.lemmas.Bool.{cases_lt}
-use Rattle.std.proofs.lemmas.Int.{ints, clamps}
+use Rattle.std.proofs.lemmas.Int.{clamps, fold-int_max_bounds, fold-int_max_reached, ints}
+use Rattle.std.proofs.lemmas.List.Elements.{All-from_get_or}
 use Rattle.std.proofs.lemmas.List.FromFn.{length-map-range_with_len, get_or-map-range_with_len}
 use Rattle.std.proofs.Math.Nat.{mod-eq_of_lt, mod-le}
 use Rattle.std.proofs.lemmas.Nat.{div_below, div-mul-add, mod-mul-add, mod_below, mul-add-lt}
 use Rattle.dng_tags.specs.Black.{across_at, black_at, greatest, greatest_black, row_by_row}
 use Rattle.dng_tags.specs.inner.Span.{FallsBefore, FallsOn, IsGreatest, IsGreatestBlack, IsReached, IsReachedBlack}
 use Rattle.dng_tags.specs.declared.record.Levels.{Levels}
-
--- a number below the step falls on itself
-pub mod_below_self : (n k : ℕ) → n < k → n % k ≡ n
-mod_below_self n k below = mod-eq_of_lt below
 
 -- what holds of two numbers holds of the greater one
 pub of_greater : (P : ℤ → Type 0) (x y : ℤ) → P x → P y → P (int_max x y)
@@ -172,29 +169,31 @@ rows_greatest levels rows cols i limit across down is some most_across most_down
   };
 }
 
--- no element of a list is above its greatest one
+-- a number that none of a list passes, its greatest one doesn't pass either
 greatest_le : (x : ℤ) (xs : List ℤ) (m : ℤ) → ((k : ℕ) → k < length (x ∷ xs) → get_or (x ∷ xs) k (pos 0) ≤ℤ m)
     → greatest (x ∷ xs) ≤ℤ m
-greatest_le x [] m bound = bound 0 (omega arith)
-greatest_le x (y ∷ rest) m bound =
+greatest_le x xs m bound =
+    let most : ℤ = greatest (x ∷ xs) in
     let P : ℤ → Type 0 = λ z. z ≤ℤ m in
-    of_greater P x (greatest (y ∷ rest)) (bound 0 (omega arith))
-    (greatest_le y rest m (λ k within. bound (suc k) (omega arith)))
+    elim (fold-int_max_reached x xs most refl) as (λ _. most ≤ℤ m) [
+      | inl first ↦ subst P (sym first) (bound 0 (omega arith))
+      | inr later ↦ subst P later.2
+          (All-from_get_or P xs (pos 0) (λ k within. bound (suc k) (omega arith)) later.0 most later.1)
+    ]
 
 -- a number that is an element of a list, and below no other one, is its greatest
 pub greatest_is : (xs : List ℤ) (m : ℤ) → ((k : ℕ) → k < length xs → get_or xs k (pos 0) ≤ℤ m) → (at : ℕ)
     → at < length xs → get_or xs at (pos 0) ≡ m → greatest xs ≡ m
 greatest_is [] m bound at within same = absurd (omega arith)
-greatest_is (x ∷ []) m bound zero within same = same
-greatest_is (x ∷ []) m bound (suc at) within same = absurd (omega arith)
-greatest_is (x ∷ y ∷ rest) m bound zero within same =
-    let below = greatest_le y rest m (λ k within. bound (suc k) (omega arith)) in
-    omega (arith, ints, clamps, below)
-greatest_is (x ∷ y ∷ rest) m bound (suc at) within same =
-    let rest_is : greatest (y ∷ rest) ≡ m = greatest_is (y ∷ rest) m (λ k within. bound (suc k) (omega arith)) at
-    (omega arith) same in
-    let first : x ≤ℤ m = bound 0 (omega arith) in
-    omega (arith, ints, clamps)
+greatest_is (x ∷ xs) m bound zero within same =
+    omega (arith, ints, greatest_le x xs m bound, (fold-int_max_bounds x xs (greatest (x ∷ xs)) refl).0)
+greatest_is (x ∷ xs) m bound (suc at) within same =
+    omega (
+      arith,
+      ints,
+      greatest_le x xs m bound,
+      (fold-int_max_bounds x xs (greatest (x ∷ xs)) refl).1 at (pos 0) (omega arith),
+    )
 
 -- the greatest black level of an area
 pub greatest_black_is : (levels : Levels) (rows cols limit : ℕ) (m : ℤ) → limit ≡ min levels.black_rows rows
@@ -236,7 +235,7 @@ none_greatest [] count step first none place some = record {
   bound = λ k there. omega (arith, ints);
   reached = record {
     at = first;
-    there = record { within = some; place = mod_below_self first step place };
+    there = record { within = some; place = mod-eq_of_lt place };
     same = refl;
   };
 }

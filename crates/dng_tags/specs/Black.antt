@@ -2,10 +2,10 @@
 -- "BlackLevelDeltaH", "BlackLevelDeltaV", "WhiteLevel", and chapter 5, "Mapping Raw Values to Linear Reference
 -- Values"). Levels in 256ths and their limits are this project's own.
 use Rattle.std.specs.Prelude.{ℕ, ◌+◌, ◌-◌, ◌*◌, ◌/◌, ◌%◌, ◌^◌, ◌==◌, nat_le, ◌&&◌, if◌then◌else◌, ℤ, pos, ◌+ℤ◌, ◌-ℤ◌}
-use Rattle.std.specs.Prelude.{int_lt, List, [], ◌∷◌, map, length, slice_index, slice_index_or, Option, None, Some}
+use Rattle.std.specs.Prelude.{int_lt, List, [], map, length, slice_index, slice_index_or, Option, None, Some}
 use Rattle.std.specs.Prelude.{Result, Ok, Err, unwrap_or, replicate}
 use Rattle.std.specs.Int.{int_max}
-use Rattle.std.specs.List.{range_with_len}
+use Rattle.std.specs.List.{range_with_len, reduce}
 use Rattle.std.specs.Option.{option_map_or}
 use Rattle.plane_view.specs.Rectangles.{height, width}
 use Rattle.plane_view.specs.declared.Rect.{Rect}
@@ -34,9 +34,7 @@ black_at levels r c =
 
 -- the greatest of numbers, of which there is at least one
 abbrev pub greatest : List ℤ → ℤ
-greatest [] = pos 0
-greatest (x ∷ []) = x
-greatest (x ∷ y ∷ rest) = int_max x (greatest (y ∷ rest))
+greatest xs = unwrap_or (reduce int_max xs) (pos 0)
 
 -- the numbers of an area of this many rows and columns, row by row
 unfoldable pub row_by_row : (rows cols : ℕ) → (ℕ → ℕ → ℤ) → List ℤ

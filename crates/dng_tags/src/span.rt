@@ -102,7 +102,6 @@ fn greatest_delta(deltas: &Items<i32>, first: u32, step: u32, count: u32) -> i32
     greatest_on(deltas.as_slice(), first, step, count)
 }
 
-#[tactic(auto, using(crate::proofs::SpanLemmas::mod_below_self))]
 fn greatest_on(deltas: &[i32], first: u32, step: u32, count: u32) -> i32
     requires place { first < step }
     requires some { first < count }

@@ -2,7 +2,8 @@
 use Rattle.std.proofs.Common.{◌≡◌, ℕ, zero, suc, ◌+◌, ◌-◌, ◌*◌, ◌/◌, ◌%◌, ◌<◌, ◌≤◌, min, nat_eq, ℤ, pos, true, false}
 use Rattle.std.proofs.Common.{List, [], ◌∷◌, length, map, Ok, refl, ap, ◌∙◌, arith}
 use Rattle.std.specs.Prelude.{nat_le, nat_lt, ◌||◌, ◌+ℤ◌, ◌-ℤ◌, slice_index_or}
-use Rattle.std.specs.List.{range_with_len}
+use Rattle.std.specs.Int.{int_max}
+use Rattle.std.specs.List.{fold, range_with_len}
 use Rattle.std.proofs.lemmas.Bool.{le-leb, le-ltb, lt-ltb}
 use Rattle.std.proofs.lemmas.Int.{clamps, ints}
 use Rattle.std.proofs.lemmas.Nat.{div-mul-add}
@@ -70,11 +71,15 @@ zero_alone (suc k) = refl
 black_zero : (r c : ℕ) → black_at made_levels r c ≡ pos 0
 black_zero r c = ap (λ (x : ℤ). x +ℤ pos 0 +ℤ pos 0) (zero_alone (r % 1 * 1 + c % 1))
 
+-- none of some zeros is above 0
+fold_zero : (f : ℕ → ℤ) (a n : ℕ) → ((k : ℕ) → f k ≡ pos 0)
+    → fold int_max (pos 0) (map f (range_with_len a n)) ≡ pos 0
+fold_zero f a zero zeros = refl
+fold_zero f a (suc n) zeros = rw (zeros a) (fold_zero f (a + 1) n zeros)
+
 greatest_zero : (f : ℕ → ℤ) (a n : ℕ) → ((k : ℕ) → f k ≡ pos 0) → greatest (map f (range_with_len a n)) ≡ pos 0
 greatest_zero f a zero zeros = refl
-greatest_zero f a (suc zero) zeros = zeros a
-greatest_zero f a (suc (suc n)) zeros =
-    rw (zeros a, greatest_zero f (a + 1) (suc n) zeros) refl
+greatest_zero f a (suc n) zeros = rw (zeros a) (fold_zero f (a + 1) n zeros)
 
 span_is : (h w : ℕ) → span_of made_levels h w ≡ pos 1048320
 unfolding span_of greatest_black row_by_row
