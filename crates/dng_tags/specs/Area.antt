@@ -1,9 +1,9 @@
 -- The groups of the active area, of the size at demosaicing and of the default crop (DNG 1.6, chapter 4, "ActiveArea",
 -- "DefaultCropOrigin", "DefaultCropSize"). The rounding and the smallest size are this project's own.
 use Rattle.std.specs.Prelude.{ℕ, nat_le, nat_lt, ◌&&◌, if◌then◌else◌, ℤ, pos, ◌+ℤ◌, ◌-ℤ◌, int_lt, Bool, List}
-use Rattle.std.specs.Prelude.{slice_index, slice_index_or, Option, None, Some, Result, Ok, Err, unwrap_or, unsigned_abs}
+use Rattle.std.specs.Prelude.{slice_index, slice_index_or, Option, Result, Ok, Err, unwrap_or, unsigned_abs}
 use Rattle.std.specs.Int.{int_div_euclid, int_max, int_min}
-use Rattle.std.specs.Option.{option_map_or}
+use Rattle.std.specs.Option.{option_map, option_map_or, option_transpose}
 use Rattle.plane_view.specs.Rectangles.{whole_rect}
 use Rattle.plane_view.specs.declared.Rect.{Rect}
 use Rattle.plane_view.specs.declared.Shape.{Shape}
@@ -49,13 +49,8 @@ extent_in xs =
     then Ok (record { across = rounded_down x; down = rounded_down y }) else Err Crop
 
 -- the same of a tag, if it is there
-abbrev pub extent_found : Option (List (ℤ × ℤ)) → Result (Option Extent) FrameFault
-extent_found None = Ok None
-extent_found (Some xs) = and_then (extent_in xs) (λ extent. Ok (Some extent))
-
--- the two numbers of a tag, if it is there
 unfoldable pub extent_of : Dirs → Tag → Result (Option Extent) FrameFault
-extent_of dirs tag = and_then (fractions_of dirs tag) extent_found
+extent_of dirs tag = and_then (fractions_of dirs tag) (λ found. option_transpose (option_map extent_in found))
 
 -- an edge held within a length
 abbrev pub held_within : ℕ → ℤ → ℕ

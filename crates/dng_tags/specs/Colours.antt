@@ -4,6 +4,7 @@
 use Rattle.std.specs.Prelude.{ℕ, ◌+◌, ◌*◌, ◌/◌, ◌==◌, nat_le, ◌&&◌, if◌then◌else◌, ℤ, pos, int_lt, Bool, List, [], ◌∷◌}
 use Rattle.std.specs.Prelude.{map, slice_index_or, Option, None, Some, Result, Ok, Err, unsigned_abs}
 use Rattle.std.specs.List.{list_all}
+use Rattle.std.specs.Option.{option_map, option_transpose}
 use Rattle.text_line.specs.Chain.{and_then}
 use Rattle.tag_rules.specs.Quantities.{colour_scale, on_scale}
 use Rattle.tag_rules.specs.Tags.{rule_of}
@@ -24,15 +25,9 @@ colour_fault tag = ColourFault (rule_of tag).number
 abbrev pub colours_in : Tag → List (ℤ × ℤ) → Result (List ℤ) FrameFault
 colours_in tag qs = on_scale colour_scale (colour_fault tag) qs
 
--- a matrix, by rows, where it is there
--- the entries of a matrix from the fractions of its tag
-abbrev pub matrix_in : Tag → Option (List (ℤ × ℤ)) → Result (Option (List ℤ)) FrameFault
-matrix_in tag None = Ok None
-matrix_in tag (Some qs) = and_then (colours_in tag qs) (λ entries. Ok (Some entries))
-
--- the matrix under a tag, if it is there
+-- the matrix under a tag, by rows, if it is there
 unfoldable pub matrix_of : Dirs → Tag → Result (Option (List ℤ)) FrameFault
-matrix_of dirs tag = and_then (fractions_of dirs tag) (λ found. matrix_in tag found)
+matrix_of dirs tag = and_then (fractions_of dirs tag) (λ found. option_transpose (option_map (colours_in tag) found))
 
 -- the entries on the diagonal of a matrix of 3 by 3
 abbrev pub diagonal_of : List ℤ → List ℤ
