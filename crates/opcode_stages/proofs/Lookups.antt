@@ -2,12 +2,13 @@
 use Rattle.std.proofs.Common.{◌≡◌, ℕ, ◌-◌, ◌<◌, ◌≤◌, ◌==◌, ◌≢◌, true, false, List, length, get_or, Option, refl}
 use Rattle.std.proofs.Common.{sym, ◌∙◌, ap, subst, inl, inr, ⊎_elim, arith}
 use Rattle.std.specs.List.{list_any, slice_get}
+use Rattle.std.specs.List.Sorted.{IsNonDecreasing}
 use Rattle.std.proofs.lemmas.Option.{slice_get-get_or, slice_get_past}
 use Rattle.std.proofs.lemmas.List.Folds.{list_any_none, list_any_at}
 use Rattle.std.proofs.lemmas.List.Elements.{All-from_get_or}
 use Rattle.std.proofs.lemmas.Bool.{cases_lt, cases_eq}
 use Rattle.std.proofs.lemmas.Bool.Decides.{nat_tests, Decides-eqb}
-use Rattle.opcode_stages.specs.inner.Places.{place_of, IsRising, IsLeastFrom, IsFirstPlace}
+use Rattle.opcode_stages.specs.inner.Places.{place_of, IsLeastFrom, IsFirstPlace}
 use Rattle.opcode_stages.specs.inner.MendRows.{IsNextBad}
 
 -- what no element is
@@ -23,7 +24,8 @@ pub has_one : (xs : List ℕ) (at k : ℕ) → k < length xs → get_or xs k 0 �
 has_one xs at k within same = list_any_at (λ x. x == at) xs k 0 within ((Decides-eqb (get_or xs k 0) at).1 same)
 
 -- the number at which those that aren't below begin
-pub first_place : (xs : List ℕ) (low at : ℕ) → IsRising xs → at ≤ length xs → ((k : ℕ) → k < at → get_or xs k 0 < low)
+pub first_place : (xs : List ℕ) (low at : ℕ) → IsNonDecreasing xs → at ≤ length xs
+    → ((k : ℕ) → k < at → get_or xs k 0 < low)
     → ((k : ℕ) → at ≤ k → k < length xs → low < get_or xs k 0) → IsFirstPlace xs low (slice_get xs at)
 first_place xs low at rising upto below above =
     ⊎_elim
@@ -33,7 +35,7 @@ first_place xs low at rising upto below above =
       not_below = (let more = above at (omega arith) within in omega arith);
       listed = has_one xs (get_or xs at 0) at within refl;
       least = λ k inside.
-          ⊎_elim (λ (lt : k < at). inl (below k lt)) (λ (ge : at ≤ k). inr (rising at k ge inside)) (cases_lt k at);
+          ⊎_elim (λ (lt : k < at). inl (below k lt)) (λ (ge : at ≤ k). inr (rising at k 0 ge inside)) (cases_lt k at);
     }))
     (λ (past : length xs ≤ at).
     subst (λ (o : Option ℕ). IsFirstPlace xs low o) (sym (slice_get_past xs at past))

@@ -1,9 +1,10 @@
 //! Points of a plane in the order of its pixels.
 
 ghost use Rattle.std.specs.Prelude.{◌≡◌, ℕ, ◌+◌, ◌*◌, ◌^◌, ◌<◌, ◌≤◌, IfOk, IfSome};
+ghost use Rattle.std.specs.List.Sorted.{IsNonDecreasing};
 ghost use Rattle.opcode_stages.specs.Mends.{is_point};
 ghost use Rattle.opcode_stages.specs.inner.MendRows.{IsNextBad};
-ghost use Rattle.opcode_stages.specs.inner.Places.{place_of, IsRising, IsFirstPlace};
+ghost use Rattle.opcode_stages.specs.inner.Places.{place_of, IsFirstPlace};
 
 use lists::Items;
 use std::alloc::{AllocError, Global};
@@ -12,7 +13,7 @@ use std::alloc::{AllocError, Global};
 #[derive(Debug, Drop)]
 pub(crate) struct Places {
     places: Items<u64>,
-    ghost rising: { IsRising places },
+    ghost rising: { IsNonDecreasing places },
 }
 
 /// The place of a pixel among rows of 2^32 pixels.

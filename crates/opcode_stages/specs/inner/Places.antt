@@ -8,10 +8,6 @@ use Rattle.std.specs.List.{list_any}
 abbrev pub place_of : ℕ → ℕ → ℕ
 place_of r c = r * 2 ^ 32 + c
 
--- no number is below one before it
-abbrev pub IsRising : List ℕ → Type 0
-IsRising xs = (i k : ℕ) → i ≤ k → k < length xs → slice_index xs i ≤ slice_index xs k
-
 -- the number is the least of a list that isn't below another
 pub record IsLeastFrom (xs : List ℕ) (low next : ℕ) : Type 0 where
   pub not_below : low ≤ next

@@ -1,16 +1,16 @@
 use Rattle.std.proofs.Common.{ℕ, ◌==◌, List, sym, ◌∙◌, ap, subst}
 use Rattle.std.specs.List.{list_any}
+use Rattle.std.specs.List.Sorted.{IsNonDecreasing}
 use Rattle.std.proofs.lemmas.List.{take_all}
 use Rattle.std.proofs.lemmas.List.Sorted.{IsNonDecreasingBy-from_sort, list_any-IsPermutation}
 use Rattle.opcode_stages.specs.Mends.{is_point}
-use Rattle.opcode_stages.specs.inner.Places.{place_of, IsRising}
+use Rattle.opcode_stages.specs.inner.Places.{place_of}
 use Rattle.opcode_stages.proofs.places.Places.new.Goals as goal
 
 pub invariant_of-result : goal.invariant_of-result
 invariant_of-result c = record {
-  rising = subst (λ (xs : List ℕ). IsRising xs) (sym c.from_vec.ensures)
-      (λ i k order within. IsNonDecreasingBy-from_sort (λ (x : ℕ). x) c.sort_unstable.new.self.items
-      c.sort_unstable.ensures.sorted i k 0 order within);
+  rising = subst IsNonDecreasing (sym c.from_vec.ensures)
+      (IsNonDecreasingBy-from_sort (λ (x : ℕ). x) c.sort_unstable.new.self.items c.sort_unstable.ensures.sorted);
 }
 
 pub returns : goal.returns
