@@ -1,6 +1,6 @@
 -- Samples that are mapped through a table (DNG 1.6, MapTable). That a value past the table takes its last entry is this
 -- project's own.
-use Rattle.std.specs.Prelude.{ℕ, ◌≤◌, ◌+◌, ◌-◌, ◌%◌, ◌==◌, ◌&&◌, Bool, nat_le, nat_lt, min, if◌then◌else◌, List, length}
+use Rattle.std.specs.Prelude.{ℕ, ◌+◌, ◌-◌, ◌%◌, ◌==◌, ◌&&◌, Bool, nat_le, nat_lt, min, if◌then◌else◌, List, length}
 use Rattle.std.specs.Prelude.{slice_index}
 use Rattle.plane_view.specs.declared.Rect.{Rect}
 use Rattle.plane_view.specs.Plane.{Plane, sample, plane_of}
@@ -14,12 +14,6 @@ pub record Mapping : Type 0 where
   pub row_pitch : ℕ
   pub col_pitch : ℕ
   pub table : List ℕ
-
--- pitches of at least 1, and a table with an entry
-pub record IsApart (row_pitch col_pitch : ℕ) (table : List ℕ) : Type 0 where
-  pub rows : 1 ≤ row_pitch
-  pub cols : 1 ≤ col_pitch
-  pub some : 1 ≤ length table
 
 -- whether the sample at row r, column c of plane p changes
 abbrev pub is_mapped : Mapping → ℕ → ℕ → ℕ → Bool

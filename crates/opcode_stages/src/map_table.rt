@@ -29,7 +29,8 @@ pub struct MapTable {
 }
 
 impl Model for MapTable {
-    ghost use Rattle.opcode_stages.specs.Maps.{Mapping, IsApart};
+    ghost use Rattle.opcode_stages.specs.Maps.{Mapping};
+    ghost use Rattle.opcode_stages.specs.inner.MapRows.{IsApart};
 
     ghost Value = { Mapping };
 

@@ -1,8 +1,14 @@
--- Definitions for the contracts between functions of this crate: a row of samples that is mapped, plane by plane. This
--- is this project's own.
+-- Definitions for the contracts between functions of this crate: what a map holds, and a row of samples that is mapped,
+-- plane by plane. This is this project's own.
 use Rattle.std.specs.Prelude.{◌≡◌, ℕ, ◌+◌, ◌-◌, ◌*◌, ◌%◌, ◌<◌, ◌≤◌, ◌==◌, ◌&&◌, Bool, nat_le, nat_lt, if◌then◌else◌}
-use Rattle.std.specs.Prelude.{List, slice_index}
+use Rattle.std.specs.Prelude.{List, length, slice_index}
 use Rattle.opcode_stages.specs.Maps.{entry_of}
+
+-- pitches of at least 1, and a table with an entry
+pub record IsApart (row_pitch col_pitch : ℕ) (table : List ℕ) : Type 0 where
+  pub rows : 1 ≤ row_pitch
+  pub cols : 1 ≤ col_pitch
+  pub some : 1 ≤ length table
 
 -- whether column k is one of those from one column on, at a pitch, up to another
 abbrev pub is_column : (from to pitch k : ℕ) → Bool
