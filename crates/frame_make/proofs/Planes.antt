@@ -3,6 +3,7 @@ use Rattle.std.proofs.Common.{◌≡◌, ℕ, ◌+◌, ◌-◌, ◌*◌, ◌/◌
 use Rattle.std.proofs.Common.{get_or, replicate, take, None, Ok, refl, sym, ap, ◌∙◌, subst, arith}
 use Rattle.std.specs.Prelude.{nat_lt}
 use Rattle.std.specs.List.{flat_map, range_with_len}
+use Rattle.std.specs.Fork.{slice_chunk}
 use Rattle.std.proofs.lemmas.Bool.{le-ltb}
 use Rattle.std.proofs.lemmas.List.{append-nil, drop_at, length-replicate, take_all}
 use Rattle.std.proofs.lemmas.List.Concat.{flat_map-append}
@@ -15,7 +16,7 @@ use Rattle.plane_view.specs.Rectangles.{whole_rect}
 use Rattle.plane_view.proofs.Pixels.{has_pixel-true}
 use Rattle.plane_view.proofs.Samples.{same_samples}
 use Rattle.tiff_dirs.specs.declared.Order.TheVariants.{Little}
-use Rattle.strip_unpack.specs.Samples.{Spells, SpellsRows, needed_bytes, part_at, row_bytes, sample_bits, unpacked}
+use Rattle.strip_unpack.specs.Samples.{Spells, SpellsRows, needed_bytes, row_bytes, sample_bits, unpacked}
 use Rattle.strip_unpack.proofs.FileOrder.{little_digits, own_digits}
 use Rattle.strip_unpack.proofs.Formula.{formula_alone}
 use Rattle.dng_tags.specs.declared.record.Coding.{Coding}
@@ -40,10 +41,11 @@ rows_spelled depth number w h row long spelled =
     record {
       count = length-made_samples number w h;
       row = λ k within.
-          let bytes : part_at (row_bytes depth w) k strip ≡ row k =
+          let bytes : slice_chunk strip (row_bytes depth w) k ≡ row k =
           part_rows row (row_bytes depth w) 0 h k long within ∙ ap row (omega arith) in
-          let samples : part_at w k (made_samples number w h) ≡ made_row number w k = row_part_is number w h k within in
-          let P : List ℕ → Type 0 = λ xs. Spells f depth xs (part_at (row_bytes depth w) k strip) in
+          let samples : slice_chunk (made_samples number w h) w k ≡ made_row number w k =
+          row_part_is number w h k within in
+          let P : List ℕ → Type 0 = λ xs. Spells f depth xs (slice_chunk strip (row_bytes depth w) k) in
           let Q : List ℕ → Type 0 = λ xs. Spells f depth (made_row number w k) xs in
           subst P (sym samples) (subst Q (sym bytes) (spelled k));
     }

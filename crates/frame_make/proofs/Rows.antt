@@ -2,11 +2,11 @@
 use Rattle.std.proofs.Common.{◌≡◌, ℕ, zero, suc, ◌+◌, ◌*◌, ◌<◌, List, [], ◌∷◌, ◌++◌, All, length, length-append, get_or}
 use Rattle.std.proofs.Common.{take, drop, sym, ap, ◌∙◌, arith}
 use Rattle.std.specs.List.{flat_map, range_with_len}
+use Rattle.std.specs.Fork.{slice_chunk}
 use Rattle.std.proofs.lemmas.List.{append-nil, drop-drop, drop_at, get_or-drop, get_or-take, map-id, take_at}
 use Rattle.std.proofs.lemmas.List.Concat.{flat_map-append}
 use Rattle.std.proofs.lemmas.List.Elements.{All-append, All-from_get_or, All-nil}
 use Rattle.std.proofs.lemmas.List.FromFn.{get_or-map-range_with_len, length-map-range_with_len, map-range_with_len_more}
-use Rattle.strip_unpack.specs.Samples.{part_at}
 use Rattle.ljpeg_predict.proofs.EncodeLemmas.{one_place}
 use Rattle.frame_make.specs.Made.{made_row, made_sample, made_samples}
 
@@ -29,7 +29,7 @@ length-rows row n a (suc count) long =
 
 -- part k of rows is row k
 pub part_rows : (row : ℕ → List ℕ) (n a count k : ℕ) → ((i : ℕ) → length (row i) ≡ n) → k < count
-    → part_at n k (flat_map row (range_with_len a count)) ≡ row (a + k)
+    → slice_chunk (flat_map row (range_with_len a count)) n k ≡ row (a + k)
 part_rows row n a zero k long h = absurd (omega arith)
 part_rows row n a (suc count) zero long h =
     let none : zero * n ≡ 0 = omega arith in
@@ -59,7 +59,7 @@ pub row_sample_is : (number w r c : ℕ) → c < w → get_or (made_row number w
 unfolding made_row
 row_sample_is number w r c h = get_or-map-range_with_len (made_sample number r) 0 w c c 0 h (omega arith)
 
-pub row_part_is : (number w h r : ℕ) → r < h → part_at w r (made_samples number w h) ≡ made_row number w r
+pub row_part_is : (number w h r : ℕ) → r < h → slice_chunk (made_samples number w h) w r ≡ made_row number w r
 unfolding made_samples
 row_part_is number w h r within =
     part_rows (made_row number w) w 0 h r (length-made_row number w) within ∙ ap (made_row number w) (omega arith)

@@ -3,6 +3,7 @@ use Rattle.std.proofs.Common.{◌≡◌, ℕ, zero, suc, ◌+◌, ◌-◌, ◌*�
 use Rattle.std.proofs.Common.{length, map, replicate, take, drop, refl, sym, ap, ◌∙◌, subst, arith, append_assoc}
 use Rattle.std.proofs.Common.{length-append}
 use Rattle.std.specs.List.{range_with_len}
+use Rattle.std.specs.Fork.{slice_chunk}
 use Rattle.std.proofs.lemmas.List.{append-nil, drop_at, length-replicate, take-replicate, take_at}
 use Rattle.std.proofs.lemmas.List.Concat.{flat_map-append}
 use Rattle.std.proofs.lemmas.List.Elements.{All-append, All-from_get_or, All-head, All-tail}
@@ -11,7 +12,6 @@ use Rattle.std.proofs.Math.Seq.{take-add}
 use Rattle.binary_digits.specs.Digits.{bits_of, byte_bits, number_of}
 use Rattle.binary_digits.proofs.DigitLemmas.{append_same_size, byte_bits-append, bits_of-number_of, length-bits_of}
 use Rattle.binary_digits.proofs.DigitLemmas.{length-byte_bits, number_of-lt, same_number}
-use Rattle.strip_unpack.specs.Samples.{part_at}
 use Rattle.strip_unpack.proofs.Rows.{length_part}
 use Rattle.frame_make.specs.Made.{whole_bytes}
 
@@ -21,18 +21,18 @@ AreBytes bytes = All (λ byte. byte < 256) bytes
 
 -- byte k of digits
 abbrev byte_at : List Bool → ℕ → ℕ
-byte_at bits k = number_of (part_at 8 k bits)
+byte_at bits k = number_of (slice_chunk bits 8 k)
 
 byte_digits : (bits : List Bool) (count n : ℕ) → count * 8 ≤ length bits → n < count
-    → bits_of 8 (byte_at bits n) ≡ part_at 8 n bits
+    → bits_of 8 (byte_at bits n) ≡ slice_chunk bits 8 n
 byte_digits bits count n long h =
-    let part = part_at 8 n bits in
+    let part = slice_chunk bits 8 n in
     let size : length part ≡ 8 = length_part 8 n count bits h long in
     ap (λ k. bits_of k (number_of part)) (sym size) ∙ bits_of-number_of part
 
 byte_small : (bits : List Bool) (count n : ℕ) → count * 8 ≤ length bits → n < count → byte_at bits n < 256
 byte_small bits count n long h =
-    let part = part_at 8 n bits in
+    let part = slice_chunk bits 8 n in
     let size : length part ≡ 8 = length_part 8 n count bits h long in
     let P : ℕ → Type 0 = λ k. number_of part < 2 ^ k in
     subst P size (number_of-lt part)
@@ -46,7 +46,7 @@ first_bytes bits count long (suc n) h =
     let next : suc n ≡ n + 1 = omega arith in
     let more : suc n * 8 ≡ n * 8 + 8 = omega arith in
     let before = first_bytes bits count long n (omega arith) in
-    let here : bits_of 8 (g n) ++ [] ≡ part_at 8 n bits =
+    let here : bits_of 8 (g n) ++ [] ≡ slice_chunk bits 8 n =
     append-nil (bits_of 8 (g n)) ∙ byte_digits bits count n long h in
     ap (λ k. byte_bits (map g (range_with_len 0 k))) next
     ∙ ap byte_bits (map-range_with_len_more g 0 n n (omega arith))

@@ -4,9 +4,9 @@ use Rattle.std.specs.Prelude.{ℕ, ◌+◌, ◌*◌, ◌/◌, ◌%◌, Bool, tru
 use Rattle.std.specs.List.{flat_map, range_with_len}
 use Rattle.std.specs.Option.{option_map_or}
 use Rattle.std.specs.Result.{result_ok}
+use Rattle.std.specs.Fork.{slice_chunk}
 use Rattle.byteorder.specs.Endian.{little_bytes}
 use Rattle.binary_digits.specs.Digits.{bits_of, number_of}
-use Rattle.strip_unpack.specs.Samples.{part_at}
 use Rattle.ljpeg_predict.specs.Encoding.{head, sample_bits, stuffed, written_scan}
 use Rattle.ljpeg_predict.specs.Headers.{predictor_of}
 use Rattle.tiff_dirs.specs.declared.Order.TheVariants.{Little}
@@ -31,7 +31,7 @@ made_samples number w h = flat_map (made_row number w) (range_with_len 0 h)
 -- digits as bytes, eight to each, most significant first; those that the last byte lacks are `fill`
 unfoldable pub whole_bytes : (fill : Bool) → List Bool → List ℕ
 whole_bytes fill bits =
-    map (λ k. number_of (part_at 8 k (bits ++ replicate 7 fill))) (range_with_len 0 ((length bits + 7) / 8))
+    map (λ k. number_of (slice_chunk (bits ++ replicate 7 fill) 8 k)) (range_with_len 0 ((length bits + 7) / 8))
 
 -- a row of samples of 12 bits, packed
 unfoldable pub packed_row : List ℕ → List ℕ

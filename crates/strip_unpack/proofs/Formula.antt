@@ -2,6 +2,7 @@
 use Rattle.std.proofs.Common.{◌≡◌, ℕ, zero, suc, ◌+◌, ◌*◌, ◌/◌, ◌%◌, ◌^◌, ◌<◌, ◌≤◌, List, [], ◌∷◌, ◌++◌, length}
 use Rattle.std.proofs.Common.{length-drop, map, take, drop, refl, sym, ap, ◌∙◌, subst, arith}
 use Rattle.std.specs.List.{flat_map, range_with_len}
+use Rattle.std.specs.Fork.{slice_chunk}
 use Rattle.std.proofs.lemmas.List.{append-nil, get_or-drop, get_or-take, take-append-drop}
 use Rattle.std.proofs.lemmas.List.Concat.{flat_map-append}
 use Rattle.std.proofs.lemmas.List.Elements.{All-from_get_or}
@@ -12,7 +13,7 @@ use Rattle.std.proofs.Math.Seq.{take-add}
 use Rattle.tiff_dirs.specs.declared.Order.{Order}
 use Rattle.binary_digits.specs.Digits.{byte_bits, number_of}
 use Rattle.binary_digits.proofs.DigitLemmas.{length-byte_bits, number_of-lt}
-use Rattle.strip_unpack.specs.Samples.{Spells, SpellsRows, file_order, needed_bytes, part_at, row_bytes, row_sample}
+use Rattle.strip_unpack.specs.Samples.{Spells, SpellsRows, file_order, needed_bytes, row_bytes, row_sample}
 use Rattle.strip_unpack.specs.Samples.{sample_bits, unpacked}
 use Rattle.strip_unpack.proofs.FileOrder.{length-file_order, sample_bits-number_of}
 use Rattle.strip_unpack.proofs.OneSpelling.{same_spelled}
@@ -21,17 +22,17 @@ use Rattle.strip_unpack.proofs.Rows.{length_part}
 -- the digits of sample i of a row
 row_digits : (order : Order) (depth i n : ℕ) (bytes : List ℕ) → depth ≤ 16 → i < n
     → n * depth ≤ length (byte_bits bytes)
-    → sample_bits order depth (row_sample order depth bytes i) ≡ part_at depth i (byte_bits bytes)
+    → sample_bits order depth (row_sample order depth bytes i) ≡ slice_chunk (byte_bits bytes) depth i
 unfolding row_sample
 row_digits order depth i n bytes most h long =
-    sample_bits-number_of order depth (part_at depth i (byte_bits bytes)) most
+    sample_bits-number_of order depth (slice_chunk (byte_bits bytes) depth i) most
     (length_part depth i n (byte_bits bytes) h long)
 
 row_fits : (order : Order) (depth i n : ℕ) (bytes : List ℕ) → depth ≤ 16 → i < n → n * depth ≤ length (byte_bits bytes)
     → row_sample order depth bytes i < 2 ^ depth
 unfolding row_sample
 row_fits order depth i n bytes most h long =
-    let bits = part_at depth i (byte_bits bytes) in
+    let bits = slice_chunk (byte_bits bytes) depth i in
     let P : ℕ → Type 0 = λ k. number_of (file_order order depth bits) < 2 ^ k in
     subst P (length-file_order order depth bits most ∙ length_part depth i n (byte_bits bytes) h long)
     (number_of-lt (file_order order depth bits))
@@ -48,11 +49,11 @@ row_prefix order depth cols bytes most long (suc n) h =
     let count : suc n * depth ≡ n * depth + depth = omega arith in
     let next : suc n ≡ n + 1 = omega arith in
     let before = row_prefix order depth cols bytes most long n (omega arith) in
-    let here : f (g n) ++ [] ≡ part_at depth n bits =
+    let here : f (g n) ++ [] ≡ slice_chunk bits depth n =
     append-nil (f (g n)) ∙ row_digits order depth n cols bytes most h long in
     ap (λ k. take k bits) count
     ∙ take-add (n * depth) depth bits
-    ∙ ap (λ xs. xs ++ part_at depth n bits) before
+    ∙ ap (λ xs. xs ++ slice_chunk bits depth n) before
     ∙ ap (λ xs. flat_map f (map g (range_with_len 0 n)) ++ xs) (sym here)
     ∙ sym (flat_map-append f (map g (range_with_len 0 n)) (g n ∷ []))
     ∙ ap (flat_map f) (sym (map-range_with_len_more g 0 n n (omega arith)))
@@ -81,15 +82,15 @@ row_spelled order depth cols bytes most size =
 
 -- row k of the samples by formula
 row_of_formula : (order : Order) (depth rows cols k : ℕ) (bytes : List ℕ) → k < rows
-    → part_at cols k (unpacked order depth rows cols bytes)
-    ≡ map (row_sample order depth (part_at (row_bytes depth cols) k bytes)) (range_with_len 0 cols)
+    → slice_chunk (unpacked order depth rows cols bytes) cols k
+    ≡ map (row_sample order depth (slice_chunk bytes (row_bytes depth cols) k)) (range_with_len 0 cols)
 unfolding unpacked
 row_of_formula order depth rows cols k bytes h =
     let w = row_bytes depth cols in
-    let g = λ (i : ℕ). row_sample order depth (part_at w (i / cols) bytes) (i % cols) in
+    let g = λ (i : ℕ). row_sample order depth (slice_chunk bytes w (i / cols)) (i % cols) in
     let all = map g (range_with_len 0 (rows * cols)) in
     let count = length-map-range_with_len g 0 (rows * cols) in
-    fill_by_all (row_sample order depth (part_at w k bytes)) (part_at cols k all) cols 0
+    fill_by_all (row_sample order depth (slice_chunk bytes w k)) (slice_chunk all cols k) cols 0
     (length_part cols k rows all h (omega arith))
     (λ i less.
     let within : k * cols + i < cols * rows = mul-add-lt k cols i rows h less in
@@ -107,9 +108,9 @@ formula_spelled order depth rows cols bytes most long = record {
   count = length-map-range_with_len _ 0 (rows * cols);
   row = λ k h.
       let w = row_bytes depth cols in
-      let P : List ℕ → Type 0 = λ xs. Spells (sample_bits order depth) depth xs (part_at w k bytes) in
+      let P : List ℕ → Type 0 = λ xs. Spells (sample_bits order depth) depth xs (slice_chunk bytes w k) in
       subst P (sym (row_of_formula order depth rows cols k bytes h))
-      (row_spelled order depth cols (part_at w k bytes) most (length_part w k rows bytes h long));
+      (row_spelled order depth cols (slice_chunk bytes w k) most (length_part w k rows bytes h long));
 }
 
 -- and nothing else

@@ -2,11 +2,12 @@
 use Rattle.std.proofs.Common.{◌≡◌, ℕ, zero, suc, ◌+◌, ◌*◌, ◌^◌, ◌<◌, ◌≤◌, Bool, List, [], ◌∷◌, ◌++◌, All, length, take}
 use Rattle.std.proofs.Common.{refl, sym, ◌∙◌, arith, append_assoc}
 use Rattle.std.specs.List.{flat_map}
+use Rattle.std.specs.Fork.{slice_chunk}
 use Rattle.std.proofs.lemmas.List.{take_all}
 use Rattle.std.proofs.lemmas.List.Elements.{All-head, All-tail}
 use Rattle.std.proofs.Math.Seq.{take-add}
 use Rattle.tiff_dirs.specs.declared.Order.{Order}
-use Rattle.strip_unpack.specs.Samples.{SpellsRows, part_at, sample_bits}
+use Rattle.strip_unpack.specs.Samples.{SpellsRows, sample_bits}
 use Rattle.binary_digits.proofs.DigitLemmas.{append_same_size}
 use Rattle.strip_unpack.proofs.FileOrder.{IsCode, sample_code}
 use Rattle.strip_unpack.proofs.Rows.{length_part}
@@ -26,7 +27,8 @@ same_row f depth code (x ∷ xs) (y ∷ ys) p q long hx hy e =
     cc
 
 -- lists whose parts are equal are equal as far as the parts go
-same_parts : (n rows : ℕ) (xs ys : List ℕ) → ((k : ℕ) → k < rows → part_at n k xs ≡ part_at n k ys) → (k : ℕ) → k ≤ rows
+same_parts : (n rows : ℕ) (xs ys : List ℕ) → ((k : ℕ) → k < rows → slice_chunk xs n k ≡ slice_chunk ys n k)
+    → (k : ℕ) → k ≤ rows
     → take (k * n) xs ≡ take (k * n) ys
 same_parts n rows xs ys same zero h = let none : 0 * n ≡ 0 = omega arith in rw none refl
 same_parts n rows xs ys same (suc k) h =
@@ -40,10 +42,10 @@ pub same_spelled : (order : Order) (depth rows cols : ℕ) (xs ys bytes : List �
     → SpellsRows order depth rows cols xs bytes → SpellsRows order depth rows cols ys bytes → xs ≡ ys
 same_spelled order depth rows cols xs ys bytes most sx sy =
     let code = sample_code order depth most in
-    let parts : (k : ℕ) → k < rows → part_at cols k xs ≡ part_at cols k ys = λ k h.
+    let parts : (k : ℕ) → k < rows → slice_chunk xs cols k ≡ slice_chunk ys cols k = λ k h.
     let a = sx.row k h in
     let b = sy.row k h in
-    let long : length (part_at cols k xs) ≡ length (part_at cols k ys) =
+    let long : length (slice_chunk xs cols k) ≡ length (slice_chunk ys cols k) =
     length_part cols k rows xs h (omega (arith, sx.count))
     ∙ sym (length_part cols k rows ys h (omega (arith, sy.count))) in
     same_row (sample_bits order depth) depth code _ _ a.padding b.padding long a.fits b.fits

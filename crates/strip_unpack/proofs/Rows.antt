@@ -1,22 +1,22 @@
 -- Rows one after the other, in a list that is cut into parts.
+use Rattle.std.specs.Fork.{slice_chunk}
 use Rattle.std.proofs.Common.{◌≡◌, ℕ, ◌+◌, ◌-◌, ◌*◌, ◌<◌, ◌≤◌, List, [], ◌++◌, length, length-append, length-drop, take}
 use Rattle.std.proofs.Common.{drop, sym, ap, ◌∙◌, arith}
 use Rattle.std.proofs.lemmas.List.{append-nil, drop_all, drop-take, drop_at, length-take, length-take-le, take_at}
 use Rattle.std.proofs.lemmas.Slice.{take-put_mid_below}
 use Rattle.std.proofs.Math.Nat.{mul-le-mul_right}
 use borrow.Rule.Slice.PartMut.{put_mid}
-use Rattle.strip_unpack.specs.Samples.{part_at}
 
 -- each part has its length
 pub length_part : {A : Type 0} (n k rows : ℕ) (xs : List A) → k < rows → rows * n ≤ length xs
-    → length (part_at n k xs) ≡ n
+    → length (slice_chunk xs n k) ≡ n
 length_part n k rows xs h long =
     let more : (k + 1) * n ≤ rows * n = mul-le-mul_right n (omega arith) in
     simp (length-take, length-drop) (omega arith)
 
 -- a write to part k leaves the parts before it
 pub part_before : (n k m j : ℕ) (xs ys : List ℕ) → j < k → k * n ≤ length xs
-    → part_at n j (put_mid (k * n) m xs ys) ≡ part_at n j xs
+    → slice_chunk (put_mid (k * n) m xs ys) n j ≡ slice_chunk xs n j
 part_before n k m j xs ys h within =
     let less : (j + 1) * n ≤ k * n = mul-le-mul_right n (omega arith) in
     sym (drop-take (j * n) n (put_mid (k * n) m xs ys))
@@ -25,7 +25,7 @@ part_before n k m j xs ys h within =
 
 -- part k is what was written to it
 pub part_written : (n k m : ℕ) (xs ys : List ℕ) → length ys ≡ n → k * n ≤ length xs
-    → part_at n k (put_mid (k * n) m xs ys) ≡ ys
+    → slice_chunk (put_mid (k * n) m xs ys) n k ≡ ys
 part_written n k m xs ys long within =
     let rest = ys ++ drop m (drop (k * n) xs) in
     ap (take n) (drop_at (take (k * n) xs) rest (k * n) (length-take-le (k * n) xs within))

@@ -2,6 +2,7 @@
 use Rattle.std.specs.Prelude.{◌≡◌, ℕ, ◌+◌, ◌*◌, ◌/◌, ◌%◌, ◌^◌, ◌<◌, ◌==◌, if◌then◌else◌, Bool, List, ◌++◌, length, map}
 use Rattle.std.specs.Prelude.{take, drop, All}
 use Rattle.std.specs.List.{flat_map, range_with_len}
+use Rattle.std.specs.Fork.{slice_chunk}
 use Rattle.binary_digits.specs.Digits.{bits_of, byte_bits, number_of}
 use Rattle.tiff_dirs.specs.declared.Order.{Order}
 use Rattle.tiff_dirs.specs.declared.Order.TheVariants.{Big, Little}
@@ -31,24 +32,20 @@ row_bytes depth cols = (cols * depth + 7) / 8
 abbrev pub needed_bytes : ℕ → ℕ → ℕ → ℕ
 needed_bytes depth rows cols = rows * row_bytes depth cols
 
--- part k of a list that is cut into parts of n items
-abbrev pub part_at : {A : Type 0} → ℕ → ℕ → List A → List A
-part_at n k xs = take n (drop (k * n) xs)
-
 -- bytes spell rows of samples: each row begins at a byte, right after the row before
 pub record SpellsRows (order : Order) (depth rows cols : ℕ) (samples bytes : List ℕ) : Type 0 where
   pub count : length samples ≡ rows * cols
   pub row : (k : ℕ) → k < rows
-      → Spells (sample_bits order depth) depth (part_at cols k samples) (part_at (row_bytes depth cols) k bytes)
+      → Spells (sample_bits order depth) depth (slice_chunk samples cols k) (slice_chunk bytes (row_bytes depth cols) k)
 
 -- sample i of the bytes of a row
 unfoldable pub row_sample : Order → ℕ → List ℕ → ℕ → ℕ
-row_sample order depth bytes i = number_of (file_order order depth (part_at depth i (byte_bits bytes)))
+row_sample order depth bytes i = number_of (file_order order depth (slice_chunk (byte_bits bytes) depth i))
 
 -- the samples of rows of bytes, row by row
 unfoldable pub unpacked : Order → (depth rows cols : ℕ) → List ℕ → List ℕ
 unpacked order depth rows cols bytes =
-    map (λ i. row_sample order depth (part_at (row_bytes depth cols) (i / cols) bytes) (i % cols))
+    map (λ i. row_sample order depth (slice_chunk bytes (row_bytes depth cols) (i / cols)) (i % cols))
     (range_with_len 0 (rows * cols))
 
 -- the bytes spell these samples and no others

@@ -1,8 +1,9 @@
+use Rattle.std.specs.Fork.{slice_chunk}
 use Rattle.std.proofs.Common.{ℕ, List, ◌≡◌, ◌+◌, ◌-◌, ◌*◌, ◌≤◌, length, drop, take, below_more, length-drop, sym, ◌∙◌}
 use Rattle.std.proofs.Common.{subst, arith}
 use Rattle.std.proofs.lemmas.List.{length-take}
 use Rattle.std.proofs.Math.Nat.{mul-le-mul_left, mul-le-mul_right}
-use Rattle.strip_unpack.specs.Samples.{Spells, part_at, row_bytes, sample_bits}
+use Rattle.strip_unpack.specs.Samples.{Spells, row_bytes, sample_bits}
 use Rattle.strip_unpack.proofs.Formula.{formula_alone}
 use Rattle.strip_unpack.proofs.Rows.{part_before, part_written}
 use Rattle.strip_unpack.proofs.unpack.Goals as goal
@@ -29,9 +30,9 @@ loop-row-preserved c =
     let length_is : l.row * n + n - l.row * n ≡ n = omega arith in
     let P : ℕ → ℕ → Type 0 = λ k m. Spells f c.args.depth row (take m (drop (l.row * n) bytes)) in
     below_more _ _
-    (λ k h. let Q : List ℕ → Type 0 = λ xs. Spells f c.args.depth xs (part_at n k bytes) in
+    (λ k h. let Q : List ℕ → Type 0 = λ xs. Spells f c.args.depth xs (slice_chunk bytes n k) in
     subst Q (sym (part_before cols l.row _ k l.out row h room)) (l.invariant k h))
-    (let Q : List ℕ → Type 0 = λ xs. Spells f c.args.depth xs (part_at n l.row bytes) in
+    (let Q : List ℕ → Type 0 = λ xs. Spells f c.args.depth xs (slice_chunk bytes n l.row) in
     subst Q (sym (part_written cols l.row _ l.out row long room)) (subst (P 0) length_is c.unpack_row.ensures))
 
 pub returns-clause-ok : goal.returns-clause-ok
@@ -45,7 +46,7 @@ returns-clause-ok c =
     (subst P width c.if-bytes-needed.false) (record {
       count = omega arith;
       row = λ k h.
-          let Q : ℕ → Type 0 = λ w. Spells (sample_bits c.args.order depth) depth (part_at c.args.cols k l.out)
-          (part_at w k bytes) in
+          let Q : ℕ → Type 0 = λ w. Spells (sample_bits c.args.order depth) depth (slice_chunk l.out c.args.cols k)
+          (slice_chunk bytes w k) in
           subst Q width (l.invariant k (omega arith));
     })
