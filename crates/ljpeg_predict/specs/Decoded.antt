@@ -107,6 +107,6 @@ decoded bytes want =
     scan_in bytes want >>= (λ scan. samples_of scan (differences_in (table_at scan) want (data_bits scan.bytes)))
 
 -- what a call that writes these samples tells
-abbrev pub told : Result (Unit {0}) JpegFault → List ℕ → Result (List ℕ) JpegFault
+abbrev pub told : {E : Type 0} → Result (Unit {0}) E → List ℕ → Result (List ℕ) E
 told (Ok none) samples = Ok samples
 told (Err fault) samples = Err fault
