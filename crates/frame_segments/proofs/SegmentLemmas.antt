@@ -4,12 +4,12 @@ use Rattle.std.proofs.Common.{Option, None, Some, Result, Ok, Err, sym, ap, ◌�
 use Rattle.std.specs.Prelude.{⊤}
 use Rattle.std.specs.Result.{result_err}
 use Rattle.std.proofs.lemmas.List.{drop_all}
+use Rattle.ljpeg_predict.specs.Decoded.{told}
 use Rattle.dng_tags.specs.Raw.{fault_from, refused_or, samples_in, segment_fault}
 use Rattle.dng_tags.proofs.RawLemmas.{fault_from-cons, fault_from-nil}
 use Rattle.tag_rules.specs.declared.faults.SegmentFault.{SegmentFault}
 use Rattle.dng_tags.specs.declared.record.Coding.{Coding}
 use Rattle.dng_tags.specs.declared.record.Segment.{Segment}
-use Rattle.frame_segments.specs.inner.Buffers.{told}
 
 -- a segment that is decoded, and one that can be
 pub decodable : (bytes coded : List ℕ) (coding : Coding) (segment : Segment)

@@ -6,10 +6,10 @@ ghost use Rattle.std.specs.Bool.{OnTrue};
 ghost use Rattle.plane_view.specs.Lent.{sample_at};
 ghost use Rattle.plane_view.specs.Rectangles.{HasPixel};
 ghost use Rattle.plane_view.specs.Tiles.{loan, tile_rect, SameLoan};
-ghost use Rattle.ljpeg_predict.specs.Decoded.{decoded};
+ghost use Rattle.ljpeg_predict.specs.Decoded.{decoded, told};
 ghost use Rattle.dng_tags.specs.Raw.{coded_count, coded_place, fault_from, jpeg_samples, packed_samples, samples_in};
 ghost use Rattle.dng_tags.specs.declared.record.Segment.{Segment as SegmentRecord};
-ghost use Rattle.frame_segments.specs.inner.Buffers.{Fits, Holds, IsCoded, IsCoding, IsCoding-prop, IsDecodable, told};
+ghost use Rattle.frame_segments.specs.inner.Buffers.{Fits, Holds, IsCoded, IsCoding, IsCoding-prop, IsDecodable};
 
 use dng_tags::{Coding, FrameFault, Segment, SegmentFault};
 use ljpeg_predict::decode;

@@ -1,13 +1,12 @@
 -- Definitions for the contracts between functions of this crate: the buffer that segments are decoded into. This is
 -- this project's own.
-use Rattle.std.specs.Prelude.{◌≡◌, ℕ, ◌+◌, ◌≤◌, ⊤, List, length, slice_get, None, Some, Result, Ok, Err, take}
+use Rattle.std.specs.Prelude.{◌≡◌, ℕ, ◌+◌, ◌≤◌, ⊤, List, length, slice_get, None, Some, Ok, take}
 use Rattle.std.proofs.Props.{props}
 use Rattle.plane_view.specs.Rectangles.{IsNonEmpty, height, width}
 use Rattle.plane_view.specs.Shapes.{IsShape, max_samples, max_side}
 use Rattle.plane_view.specs.declared.Shape.{Shape}
 use Rattle.stage_core.specs.Bases.{AreCells}
 use Rattle.dng_tags.specs.Raw.{coded_count, samples_in, segment_fault}
-use Rattle.tag_rules.specs.declared.faults.SegmentFault.{SegmentFault}
 use Rattle.dng_tags.specs.declared.record.Coding.{Coding}
 use Rattle.dng_tags.specs.declared.record.Coding.TheVariants.{LosslessJpeg, Packed}
 use Rattle.dng_tags.specs.declared.record.Segment.{Segment}
@@ -38,11 +37,6 @@ pub record Fits (bytes buffer : List ℕ) (segment : Segment) : Type 0 where
   pub room : coded_count segment ≤ length buffer
   pub some : 1 ≤ coded_count segment
   pub few : coded_count segment ≤ max_samples
-
--- what a call that writes these samples tells
-abbrev pub told : Result ⊤ SegmentFault → List ℕ → Result (List ℕ) SegmentFault
-told (Ok none) samples = Ok samples
-told (Err why) samples = Err why
 
 -- the buffer begins with the coded samples of a segment
 abbrev pub Holds : (buffer bytes : List ℕ) → Coding → Segment → Type 0

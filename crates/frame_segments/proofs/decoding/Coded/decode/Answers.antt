@@ -1,9 +1,8 @@
 use Rattle.std.proofs.Common.{◌≡◌, ℕ, length, take, drop, sym, ◌∙◌, ap, arith}
 use Rattle.std.proofs.lemmas.List.{length-take, take_at}
-use Rattle.ljpeg_predict.specs.Decoded.{decoded}
+use Rattle.ljpeg_predict.specs.Decoded.{decoded, told}
 use Rattle.dng_tags.specs.Raw.{coded_count, jpeg_samples, samples_in, segment_bytes}
 use Rattle.dng_tags.specs.declared.record.Coding.{Coding}
-use Rattle.frame_segments.specs.inner.Buffers.{told}
 use Rattle.frame_segments.proofs.decoding.Coded.decode.Goals as goal
 
 pub returns-in-Packed : goal.returns-in-Packed
