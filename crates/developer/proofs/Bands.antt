@@ -5,9 +5,11 @@ use Rattle.std.proofs.lemmas.List.{append-nil}
 use Rattle.plane_view.specs.Plane.{Plane, crop}
 use Rattle.plane_view.specs.Rectangles.{area_of}
 use Rattle.plane_view.specs.declared.Rect.{Rect}
+use Rattle.stage_core.specs.Planes.{IsPart}
+use Rattle.stage_core.specs.Stages.{shape_of}
 use Rattle.dev_settings.specs.declared.format.Format.{Format}
 use Rattle.image_out.specs.Image.{pixels_of}
-use Rattle.developer.specs.inner.Developed.{IsDeveloped, IsWithin}
+use Rattle.developer.specs.inner.Developed.{IsDeveloped}
 use Rattle.developer.specs.inner.Pieces.{InPieces}
 use Rattle.developer.specs.inner.Writes.{Writes}
 use Rattle.developer.specs.declared.writing.Stop.{Stop}
@@ -29,7 +31,7 @@ few_of_band : (h w : ℕ) → h ≤ 8192 → w ≤ 8192 → 2 * (h * w * 3) ≤ 
 few_of_band h w rows cols = omega (arith, few_samples h w rows cols)
 
 module _ {S : Type 0} (stands_for : S → List ℕ → Type 0) (faults : S → ℕ) (first : S) (heads : List ℕ) (format : Format)
-    (P : Plane) (rect : Rect) (developed : IsDeveloped P) (within : IsWithin rect P) where
+    (P : Plane) (rect : Rect) (developed : IsDeveloped P) (within : IsPart rect (shape_of P)) where
   -- no row yet
   pub bands_none : length heads ≤ 256 → InBands stands_for faults first first heads heads 0 format P rect rect.top
   bands_none short =
@@ -42,7 +44,7 @@ module _ {S : Type 0} (stands_for : S → List ℕ → Type 0) (faults : S → �
         room = omega arith;
         number = rw none omega arith;
         after = omega arith;
-        before = omega (arith, within.rows);
+        before = omega (arith, within.some.rows);
       }
 
   module _ (now : S) (piece : List ℕ) (written top : ℕ) (so-far : InBands stands_for faults first now heads piece
@@ -50,21 +52,24 @@ module _ {S : Type 0} (stands_for : S → List ℕ → Type 0) (faults : S → �
     module _ (band : Rect) (left : band.left ≡ rect.left) (right : band.right ≡ rect.right) (is-top : band.top ≡ top)
         (order : band.top < band.bottom) (low : band.bottom ≤ rect.bottom) where
       -- the band lies within the plane
-      pub band_within : IsWithin band P
+      pub band_within : IsPart band (shape_of P)
       band_within = record {
-        rows = order;
-        bottom = omega (arith, low, within.bottom);
-        cols = omega (arith, left, right, within.cols);
-        right = omega (arith, right, within.right);
+        some = record { rows = order; cols = omega (arith, left, right, within.some.cols) };
+        inside = record {
+          top = omega arith;
+          bottom = omega (arith, low, within.inside.bottom);
+          left = omega arith;
+          right = omega (arith, right, within.inside.right);
+        };
       }
 
       -- few bytes will be
       pub bands_fit : length heads ≤ 256 → written + length piece + 2 * (area_of band * 3) < 2 ^ 60
       bands_fit short =
-          let rows : top - rect.top ≤ 8192 = omega (arith, so-far.before, within.bottom, developed.rows) in
-          let cols : rect.right - rect.left ≤ 8192 = omega (arith, within.right, developed.cols) in
-          let high : band.bottom - band.top ≤ 8192 = omega (arith, low, within.bottom, developed.rows) in
-          let wide : band.right - band.left ≤ 8192 = omega (arith, right, within.right, developed.cols) in
+          let rows : top - rect.top ≤ 8192 = omega (arith, so-far.before, within.inside.bottom, developed.rows) in
+          let cols : rect.right - rect.left ≤ 8192 = omega (arith, within.inside.right, developed.cols) in
+          let high : band.bottom - band.top ≤ 8192 = omega (arith, low, within.inside.bottom, developed.rows) in
+          let wide : band.right - band.left ≤ 8192 = omega (arith, right, within.inside.right, developed.cols) in
           omega (
             arith,
             so-far.number,

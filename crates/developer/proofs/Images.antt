@@ -1,17 +1,19 @@
 -- The bytes of an image, row by row.
 use Rattle.std.proofs.Common.{◌≡◌, ℕ, zero, suc, ◌+◌, ◌*◌, ◌-◌, ◌≤◌, List, [], ◌++◌, length, take, drop, Option, None}
-use Rattle.std.proofs.Common.{Some, refl, sym, ◌∙◌, ap, subst, append_assoc, length-append, arith}
+use Rattle.std.proofs.Common.{Some, refl, sym, ◌∙◌, ap, append_assoc, arith}
 use Rattle.std.proofs.lemmas.List.{append-nil, take-append-drop}
 use Rattle.std.proofs.Math.Nat.{mul-le-mul_right}
 use Rattle.plane_view.specs.Plane.{Plane, IsWhole, crop}
 use Rattle.plane_view.specs.Rectangles.{LiesIn, rect_of}
 use Rattle.plane_view.specs.declared.Rect.{Rect}
 use Rattle.plane_view.proofs.Crops.{crop_all, crop_more, crop_none, length-crop}
+use Rattle.stage_core.specs.Planes.{IsPart}
+use Rattle.stage_core.specs.Stages.{shape_of}
 use Rattle.dev_settings.specs.declared.format.Format.{Format}
 use Rattle.dev_settings.specs.declared.format.Format.TheVariants.{Ppm, Tiff}
 use Rattle.image_out.specs.Image.{head_of, pixels_of, reply_head_of}
-use Rattle.image_out.proofs.ImageLaws.{length-image_of, length-pixels_of, pixels_of-append}
-use Rattle.developer.specs.inner.Developed.{IsDeveloped, IsWithin}
+use Rattle.image_out.proofs.ImageLaws.{length-image_of, pixels_of-append}
+use Rattle.developer.specs.inner.Developed.{IsDeveloped}
 use Rattle.developer.specs.Replies.{image, image_reply, no_region, region_reply}
 
 -- the bytes of the first k rows of a crop
@@ -73,8 +75,8 @@ crop_then P rect band k (suc j) whole lies order left right top low few =
     (let s : j + 1 ≡ suc j = omega arith in s))))))
 
 -- the rows above a band, and the band
-pub rows_band : (format : Format) (P : Plane) (rect band : Rect) → IsWhole P → IsWithin rect P → band.left ≡ rect.left
-    → band.right ≡ rect.right → rect.top ≤ band.top → band.top ≤ band.bottom → band.bottom ≤ rect.bottom
+pub rows_band : (format : Format) (P : Plane) (rect band : Rect) → IsWhole P → IsPart rect (shape_of P)
+    → band.left ≡ rect.left → band.right ≡ rect.right → rect.top ≤ band.top → band.top ≤ band.bottom → band.bottom ≤ rect.bottom
     → rows_of format P rect (band.top - rect.top) ++ pixels_of format (crop P band).samples ≡ rows_of format P rect
     (band.bottom - rect.top)
 unfolding rows_of
@@ -84,13 +86,13 @@ rows_band format P rect band whole within left right after order low =
     let all : k + j ≡ band.bottom - rect.top = omega arith in
     let lies : LiesIn rect (rect_of P) = record {
       top = omega arith;
-      bottom = within.bottom;
+      bottom = within.inside.bottom;
       left = omega arith;
-      right = within.right;
+      right = within.inside.right;
     } in
     ap (λ (xs : List ℕ). rows_of format P rect k ++ pixels_of format xs) (sym (crop_all P band))
     ∙ (sym (pixels_of-append format _ _)
-    ∙ (ap (pixels_of format) (sym (crop_then P rect band k j whole lies (omega (arith, within.cols)) left right
+    ∙ (ap (pixels_of format) (sym (crop_then P rect band k j whole lies (omega (arith, within.some.cols)) left right
     (omega arith) low (omega arith)))
     ∙ ap (rows_of format P rect) all))
 

@@ -6,14 +6,14 @@ ghost use Rattle.plane_view.specs.Plane.{crop};
 ghost use Rattle.plane_view.specs.Rectangles.{area_of};
 ghost use Rattle.plane_view.specs.Shapes.{IsShape};
 ghost use Rattle.plane_view.specs.declared.Shape.{Shape};
-ghost use Rattle.stage_core.specs.Planes.{IsPlane};
+ghost use Rattle.stage_core.specs.Planes.{IsPart, IsPlane};
 ghost use Rattle.stage_core.specs.Stages.{shape_of};
 ghost use Rattle.stage_chain.specs.Chains.{whole_of};
 ghost use Rattle.region_session.specs.Stacks.{last_shape};
 ghost use Rattle.dev_stages.specs.Members.{apply_of, shaped_of};
 ghost use Rattle.image_out.specs.Image.{head_of, pixels_of, reply_head_of};
 ghost use Rattle.developer.specs.Answered.{AreMade, IsRefused, MadeUpTo};
-ghost use Rattle.developer.specs.inner.Developed.{Develops, IsWithin};
+ghost use Rattle.developer.specs.inner.Developed.{Develops};
 ghost use Rattle.developer.specs.inner.Pieces.{InPieces};
 ghost use Rattle.developer.specs.Replies.{image, image_reply, part_of};
 ghost use Rattle.developer.specs.Sessions.{band_at, bands_of};
@@ -39,7 +39,8 @@ pub(crate) fn part<B: Base>(
     h: u32,
 ) -> Option<Rect>
     ensures rect { result ≡ part_of (whole_of apply_of session.now.stages session.now.plane) x y w h }
-    ensures within { IfSome result (λ rect. IsWithin rect (whole_of apply_of session.now.stages session.now.plane)) }
+    ensures within { IfSome result (λ rect. IsPart rect
+        (shape_of (whole_of apply_of session.now.stages session.now.plane))) }
     ensures plane { (last : Shape) × IsShape last × IsPlane (whole_of apply_of session.now.stages session.now.plane)
         last
         × (last ≡ last_shape shaped_of (shape_of session.now.plane) session.now.stages) }
@@ -70,7 +71,7 @@ pub(crate) fn write_image<B: Base, O: Sink, L: Ledger>(
     work: &mut Steps<L>,
 ) -> Result<u64, Stop>
     requires develops { Develops session.old.plane session.old.stages }
-    requires within { IsWithin rect (whole_of apply_of session.old.stages session.old.plane) }
+    requires within { IsPart rect (shape_of (whole_of apply_of session.old.stages session.old.plane)) }
     ensures writes { Writes O.stands_for O.faults out.old out.new
         (image_reply (image (whole_of apply_of session.old.stages session.old.plane) rect format)) (λ n. n) result }
     ensures made { OnOk result (AreMade session.old session.new (bands_of session.old.side rect) work.old work.new) }
@@ -133,7 +134,7 @@ fn write_bands<B: Base, O: Sink, L: Ledger>(
     work: &mut Steps<L>,
 ) -> Result<u64, Stop>
     requires develops { Develops session.old.plane session.old.stages }
-    requires within { IsWithin rect (whole_of apply_of session.old.stages session.old.plane) }
+    requires within { IsPart rect (shape_of (whole_of apply_of session.old.stages session.old.plane)) }
     requires heads { length piece.old ≤ 256 }
     requires samples { length samples.old ≡ min (rect.bottom - rect.top) session.old.side *
         ((rect.right - rect.left) * 3) }
@@ -179,7 +180,7 @@ fn write_band<B: Base, O: Sink, L: Ledger>(
     work: &mut Steps<L>,
 ) -> Result<u64, Stop>
     requires develops { Develops session.old.plane session.old.stages }
-    requires within { IsWithin band (whole_of apply_of session.old.stages session.old.plane) }
+    requires within { IsPart band (shape_of (whole_of apply_of session.old.stages session.old.plane)) }
     requires samples { area_of band * 3 ≤ length samples.old }
     requires room { length piece.old < 65536 }
     requires few { written + length piece.old + 2 * (area_of band * 3) < 2 ^ 60 }

@@ -1,8 +1,7 @@
 -- Definitions for the contracts between functions of this crate: what holds of developed planes, of the rectangles that
 -- are written of them, and of a session that makes them. This is this project's own.
-use Rattle.std.specs.Prelude.{◌≡◌, ◌<◌, ◌≤◌, List}
+use Rattle.std.specs.Prelude.{◌≡◌, ◌≤◌, List}
 use Rattle.plane_view.specs.Plane.{Plane, IsWhole}
-use Rattle.plane_view.specs.declared.Rect.{Rect}
 use Rattle.stage_core.specs.Stages.{shape_of}
 use Rattle.stage_chain.specs.Chains.{whole_of}
 use Rattle.region_session.specs.Sessions.{Opened as Session}
@@ -16,13 +15,6 @@ pub record IsDeveloped (P : Plane) : Type 0 where
   pub cols : P.cols ≤ 8192
   pub planes : P.planes ≡ 3
   pub whole : IsWhole P
-
--- the rectangle has a pixel, and lies within the plane
-pub record IsWithin (rect : Rect) (P : Plane) : Type 0 where
-  pub rows : rect.top < rect.bottom
-  pub bottom : rect.bottom ≤ P.rows
-  pub cols : rect.left < rect.right
-  pub right : rect.right ≤ P.cols
 
 -- stages that make a developed plane, of the shape that they tell
 pub record Develops (P : Plane) (stages : List DevStage) : Type 0 where

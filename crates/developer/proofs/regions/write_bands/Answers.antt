@@ -1,15 +1,17 @@
-use Rattle.std.proofs.Common.{◌≡◌, ℕ, ◌-◌, ◌*◌, ◌/◌, ◌<◌, ◌≤◌, ◌++◌, [], ◌∷◌, ◌⊎◌, List, Ok, Err, refl, sym, ◌∙◌, ap}
+use Rattle.std.proofs.Common.{◌≡◌, ℕ, ◌-◌, ◌/◌, ◌<◌, ◌≤◌, ◌++◌, [], ◌∷◌, ◌⊎◌, List, Ok, Err, refl, sym, ◌∙◌, ap}
 use Rattle.std.proofs.Common.{ap₂, subst, arith}
 use Rattle.std.specs.Int.{div_ceil}
 use Rattle.std.proofs.lemmas.Result.{err_from_is_err_and}
 use Rattle.plane_view.specs.Plane.{Plane, crop}
 use Rattle.plane_view.specs.declared.Rect.{Rect}
+use Rattle.stage_core.specs.Planes.{IsPart}
+use Rattle.stage_core.specs.Stages.{shape_of}
 use Rattle.stage_chain.specs.Chains.{whole_of}
 use Rattle.dev_stages.specs.Members.{apply_of}
 use Rattle.dev_stages.specs.declared.stage.DevStage.{DevStage}
 use Rattle.image_out.specs.Image.{pixels_of}
 use Rattle.developer.specs.Answered.{AreMade, IsRefused, MadeUpTo}
-use Rattle.developer.specs.inner.Developed.{Develops, IsWithin}
+use Rattle.developer.specs.inner.Developed.{Develops}
 use Rattle.developer.specs.inner.Pieces.{InPieces}
 use Rattle.developer.specs.Sessions.{bands_of}
 use Rattle.developer.specs.inner.Writes.{Writes, by_write}
@@ -28,7 +30,7 @@ loop-k-init g c =
     let some : 0 < side = omega (arith, c.side-side.ensures.least) in (
       subst (λ (top : ℕ). InBands g.O.Sink.stands_for g.O.Sink.faults c.args.out.now c.args.out.now c.args.piece.now
           c.args.piece.now 0 c.args.format P c.args.rect top)
-          (sym (row_at_first side c.args.rect some c.requires.within.rows))
+          (sym (row_at_first side c.args.rect some c.requires.within.some.rows))
           (bands_none g.O.Sink.stands_for g.O.Sink.faults c.args.out.now c.args.piece.now c.args.format P c.args.rect
           c.requires.develops.developed c.requires.within c.requires.heads),
       subst (λ (bands : List Rect). AreMade c.args.session.now c.args.session.now bands c.args.work.now c.args.work.now)
@@ -53,12 +55,12 @@ write_band-requires-clause-within g c =
     let low : rect.top / side ≤ k = omega arith in
     let high : k < div_ceil rect.bottom side = omega (arith, c.div_ceil-k-end.ensures) in
     let band = c.band_at-band.result in
-    let is = band_is side rect k band some c.requires.within.rows low high c.band_at-band.ensures in
+    let is = band_is side rect k band some c.requires.within.some.rows low high c.band_at-band.ensures in
     let made = c.loop-k.invariant.1 in
     let stays = made_stay c.args.session.now c.loop-k.session _ _ _ made in
     let same : whole_of apply_of c.loop-k.session.stages c.loop-k.session.plane ≡ P =
     ap₂ (whole_of apply_of) stays.stages stays.plane in
-    subst (λ (Q : Plane). IsWithin band Q) (sym same)
+    subst (λ (Q : Plane). IsPart band (shape_of Q)) (sym same)
     (band_within g.O.Sink.stands_for g.O.Sink.faults c.args.out.now c.args.piece.now c.args.format P rect
     c.requires.develops.developed c.requires.within
     c.loop-k.out c.loop-k.piece c.loop-k.written (row_at side rect k) c.loop-k.invariant.0 band is.left is.right is.top
@@ -74,7 +76,7 @@ write_band-requires-clause-few g c =
     let low : rect.top / side ≤ k = omega arith in
     let high : k < div_ceil rect.bottom side = omega (arith, c.div_ceil-k-end.ensures) in
     let band = c.band_at-band.result in
-    let is = band_is side rect k band some c.requires.within.rows low high c.band_at-band.ensures in
+    let is = band_is side rect k band some c.requires.within.some.rows low high c.band_at-band.ensures in
     let made = c.loop-k.invariant.1 in
     let stays = made_stay c.args.session.now c.loop-k.session _ _ _ made in
     let same : whole_of apply_of c.loop-k.session.stages c.loop-k.session.plane ≡ P =
@@ -95,7 +97,7 @@ returns-in_err-written-clause-writes g c =
     let low : rect.top / side ≤ k = omega arith in
     let high : k < div_ceil rect.bottom side = omega (arith, c.div_ceil-k-end.ensures) in
     let band = c.band_at-band.result in
-    let is = band_is side rect k band some c.requires.within.rows low high c.band_at-band.ensures in
+    let is = band_is side rect k band some c.requires.within.some.rows low high c.band_at-band.ensures in
     let made = c.loop-k.invariant.1 in
     let stays = made_stay c.args.session.now c.loop-k.session _ _ _ made in
     let same : whole_of apply_of c.loop-k.session.stages c.loop-k.session.plane ≡ P =
@@ -125,7 +127,7 @@ returns-in_err-written-clause-left g c =
     let low : rect.top / side ≤ k = omega arith in
     let high : k < div_ceil rect.bottom side = omega (arith, c.div_ceil-k-end.ensures) in
     let band = c.band_at-band.result in
-    let is = band_is side rect k band some c.requires.within.rows low high c.band_at-band.ensures in
+    let is = band_is side rect k band some c.requires.within.some.rows low high c.band_at-band.ensures in
     let made = c.loop-k.invariant.1 in
     let stays = made_stay c.args.session.now c.loop-k.session _ _ _ made in
     let same : whole_of apply_of c.loop-k.session.stages c.loop-k.session.plane ≡ P =
@@ -150,7 +152,7 @@ loop-k-preserved g c =
     let low : rect.top / side ≤ k = omega arith in
     let high : k < div_ceil rect.bottom side = omega (arith, c.div_ceil-k-end.ensures) in
     let band = c.band_at-band.result in
-    let is = band_is side rect k band some c.requires.within.rows low high c.band_at-band.ensures in
+    let is = band_is side rect k band some c.requires.within.some.rows low high c.band_at-band.ensures in
     let made = c.loop-k.invariant.1 in
     let stays = made_stay c.args.session.now c.loop-k.session _ _ _ made in
     let same : whole_of apply_of c.loop-k.session.stages c.loop-k.session.plane ≡ P =
@@ -184,11 +186,11 @@ returns-in_err-write_piece-clause-writes g c =
     let side : ℕ = c.side-side.result in
     let some : 0 < side = omega (arith, c.side-side.ensures.least) in
     let rect = c.args.rect in
-    let below = first_below side rect some c.requires.within.rows in
+    let below = first_below side rect some c.requires.within.some.rows in
     let end : c.loop-k.k ≡ div_ceil rect.bottom side = omega (arith, below, c.div_ceil-k-end.ensures) in
     let so-far = c.loop-k.invariant.0 in
     let last : row_at side rect c.loop-k.k ≡ rect.bottom = ap (row_at side rect) end
-    ∙ row_at_end side rect some c.requires.within.rows in
+    ∙ row_at_end side rect some c.requires.within.some.rows in
     rw (p.1, p.2)
     (bands_end g.O.Sink.stands_for g.O.Sink.faults c.args.out.now c.args.piece.now c.args.format P rect
     c.requires.develops.developed c.requires.within
@@ -203,7 +205,7 @@ returns-in_err-write_piece-clause-left g c =
     let side : ℕ = c.side-side.result in
     let some : 0 < side = omega (arith, c.side-side.ensures.least) in
     let rect = c.args.rect in
-    let below = first_below side rect some c.requires.within.rows in
+    let below = first_below side rect some c.requires.within.some.rows in
     let end : c.loop-k.k ≡ div_ceil rect.bottom side = omega (arith, below, c.div_ceil-k-end.ensures) in
     let cause = (by_write c.in_err-write_piece.field-0.0).cause in
     rw (p.1, p.2)
@@ -220,11 +222,11 @@ returns-clause-writes g c =
     let side : ℕ = c.side-side.result in
     let some : 0 < side = omega (arith, c.side-side.ensures.least) in
     let rect = c.args.rect in
-    let below = first_below side rect some c.requires.within.rows in
+    let below = first_below side rect some c.requires.within.some.rows in
     let end : c.loop-k.k ≡ div_ceil rect.bottom side = omega (arith, below, c.div_ceil-k-end.ensures) in
     let so-far = c.loop-k.invariant.0 in
     let last : row_at side rect c.loop-k.k ≡ rect.bottom = ap (row_at side rect) end
-    ∙ row_at_end side rect some c.requires.within.rows in
+    ∙ row_at_end side rect some c.requires.within.some.rows in
     bands_end g.O.Sink.stands_for g.O.Sink.faults c.args.out.now c.args.piece.now c.args.format P rect
     c.requires.develops.developed c.requires.within
     c.loop-k.out c.loop-k.piece c.loop-k.written (row_at side rect c.loop-k.k) so-far
@@ -236,7 +238,7 @@ returns-clause-made g c =
     let side : ℕ = c.side-side.result in
     let some : 0 < side = omega (arith, c.side-side.ensures.least) in
     let rect = c.args.rect in
-    let below = first_below side rect some c.requires.within.rows in
+    let below = first_below side rect some c.requires.within.some.rows in
     let end : c.loop-k.k ≡ div_ceil rect.bottom side = omega (arith, below, c.div_ceil-k-end.ensures) in
     subst (λ (s : ℕ). AreMade c.args.session.now c.loop-k.session (bands_of s rect) c.args.work.now c.loop-k.work)
     c.side-side.ensures.side
