@@ -76,7 +76,8 @@ crop_then P rect band k (suc j) whole lies order left right top low few =
 
 -- the rows above a band, and the band
 pub rows_band : (format : Format) (P : Plane) (rect band : Rect) → IsWhole P → IsPart rect (shape_of P)
-    → band.left ≡ rect.left → band.right ≡ rect.right → rect.top ≤ band.top → band.top ≤ band.bottom → band.bottom ≤ rect.bottom
+    → band.left ≡ rect.left → band.right ≡ rect.right → rect.top ≤ band.top → band.top ≤ band.bottom
+    → band.bottom ≤ rect.bottom
     → rows_of format P rect (band.top - rect.top) ++ pixels_of format (crop P band).samples ≡ rows_of format P rect
     (band.bottom - rect.top)
 unfolding rows_of
