@@ -1,5 +1,5 @@
--- Definitions for the contracts between functions of this crate: what holds of developed planes, of the rectangles that
--- are written of them, and of a session that makes them. This is this project's own.
+-- Definitions for the contracts between functions of this crate: what holds of developed planes, and of a session that
+-- makes them. This is this project's own.
 use Rattle.std.specs.Prelude.{◌≡◌, ◌≤◌, List}
 use Rattle.plane_view.specs.Plane.{Plane, IsWhole}
 use Rattle.stage_core.specs.Stages.{shape_of}
