@@ -1,4 +1,4 @@
-use Rattle.std.proofs.Common.{rules, arith}
+use Rattle.std.proofs.Common.{rules}
 use Rattle.plane_view.proofs.Cuts.{part_at, part_left, part_non_empty, part_top}
 use Rattle.plane_view.proofs.Shape.part.Goals as goal
 

@@ -1,4 +1,4 @@
-use Rattle.std.proofs.Common.{◌≡◌, ◌<◌, ◌≤◌, ◌*◌, arith}
+use Rattle.std.proofs.Common.{arith}
 use Rattle.std.proofs.lemmas.Nat.{mul-le}
 use Rattle.plane_view.proofs.Cuts.{some_parts}
 use Rattle.plane_view.proofs.Shape.part_count.Goals as goal
