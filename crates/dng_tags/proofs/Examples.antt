@@ -15,13 +15,14 @@ use Rattle.dng_tags.specs.Colours.{analog_of, calibration_of, colour_of, gain_of
 use Rattle.dng_tags.specs.Colours.{is_positive, matrix_of, ones}
 use Rattle.dng_tags.specs.Form.{depth_of, form_of, format_of, lossless_of, photometric_of, samples_per_pixel_of}
 use Rattle.dng_tags.specs.Form.{shape_of, side_of}
+use Rattle.plane_view.specs.Cuts.{part}
 use Rattle.tag_rules.specs.Values.{field_at, fractions_at, fractions_in, fractions_of, number_of, number_or, numbers_at}
 use Rattle.tag_rules.specs.Values.{numbers_in, numbers_of, required_number_of, required_numbers_of}
 use Rattle.dng_tags.specs.Frame.{frame_of, record_of}
 use Rattle.dng_tags.specs.Listed.{listed_of}
 use Rattle.opcode_list.specs.Trims.{first_misfit, left_after}
 use Rattle.tag_rules.specs.Opcodes.{opcodes_under}
-use Rattle.dng_tags.specs.Layout.{checked_layout, layout_of, rect_at, segment_at, segments_in, segments_of}
+use Rattle.dng_tags.specs.Layout.{checked_layout, layout_of, segment_at, segments_in, segments_of}
 use Rattle.dng_tags.specs.Layout.{strip_rows_of, strips_of}
 use Rattle.dng_tags.specs.Origin.{needed_version_of, origin_of, raw_directory_of, subfile_type_at, tiff_of, version_of}
 use Rattle.dng_tags.specs.Pattern.{colours_of, has_plane_colours, has_rectangular_layout, pattern_of, pattern_size_of}
@@ -92,7 +93,7 @@ flat-frame : frame_of flat ≡ Ok flat_record
 unfolding frame_of record_of tiff_of open_of origin_of version_of needed_version_of raw_directory_of subfile_type_at
     form_of photometric_of lossless_of samples_per_pixel_of depth_of format_of shape_of side_of required_number_of
     number_or segments_of layout_of strips_of strip_rows_of required_numbers_of checked_layout segments_in segment_at
-    rect_at pattern_of pattern_size_of colours_of has_plane_colours has_rectangular_layout listed_of opcodes_under
+    pattern_of pattern_size_of colours_of has_plane_colours has_rectangular_layout listed_of opcodes_under
     first_misfit left_after active_of large_enough levels_of table_of repeat_of levels_under white_of spanning span_of
     greatest_black crop_of extent_of colour_of matrix_of calibration_of analog_of gains_of numbers_of number_of
     numbers_at fractions_of fractions_at field_at numbers_in fractions_in order_of is_big is_little has_header
@@ -105,7 +106,7 @@ flat-outside : frame_of (take 153 flat) ≡ Err (Outside 0)
 unfolding frame_of record_of tiff_of open_of origin_of version_of needed_version_of raw_directory_of subfile_type_at
     form_of photometric_of lossless_of samples_per_pixel_of depth_of format_of shape_of side_of required_number_of
     number_or segments_of layout_of strips_of strip_rows_of required_numbers_of checked_layout segments_in segment_at
-    rect_at numbers_of number_of numbers_at field_at numbers_in order_of is_big is_little has_header first_directory
+    numbers_of number_of numbers_at field_at numbers_in order_of is_big is_little has_header first_directory
     directory_fits entry_count number_at entry_of entries field_or_fault field_of value_fits value_size value_place
     slot_at size_of number_in
 flat-outside = refl
@@ -131,11 +132,10 @@ unfolding in_parts
 halves = (refl, refl, refl)
 
 -- nine rows in strips of four, and a tile past the right edge
-strips-cut : (rect_at (record { rows = 9; cols = 5; planes = 1 }) (record { rows = 4; cols = 5; padded = false }) 2
+strips-cut : (part (record { rows = 9; cols = 5; planes = 1 }) 4 5 2
     ≡ record { top = 8; left = 0; bottom = 9; right = 5 })
-    × (rect_at (record { rows = 9; cols = 5; planes = 1 }) (record { rows = 16; cols = 3; padded = true }) 1
+    × (part (record { rows = 9; cols = 5; planes = 1 }) 16 3 1
     ≡ record { top = 0; left = 3; bottom = 9; right = 5 })
-unfolding rect_at
 strips-cut = (refl, refl)
 
 -- the greatest black level is looked for in the whole area

@@ -1,13 +1,14 @@
 -- The group of the segments: the strips or tiles, and that they lie in the file (TIFF 6.0, section 8, "StripOffsets",
 -- "RowsPerStrip", "StripByteCounts", and section 15, "Tiled Images"). The limits are this project's own.
-use Rattle.std.specs.Prelude.{ℕ, ◌+◌, ◌-◌, ◌*◌, ◌/◌, ◌%◌, ◌^◌, nat_le, nat_lt, ◌&&◌, if◌then◌else◌, Bool, true, false}
-use Rattle.std.specs.Prelude.{List, map, length, slice_index, Option, None, Some, Result, Ok, Err, unwrap_or, min}
+use Rattle.std.specs.Prelude.{ℕ, ◌+◌, ◌-◌, ◌*◌, ◌^◌, nat_le, nat_lt, ◌&&◌, if◌then◌else◌, Bool, true, false}
+use Rattle.std.specs.Prelude.{List, map, length, slice_index, Option, None, Some, option_map, Result, Ok, Err, unwrap_or}
+use Rattle.std.specs.Prelude.{min}
 use Rattle.std.specs.List.{position, range_with_len}
+use Rattle.plane_view.specs.Cuts.{part, part_count}
 use Rattle.plane_view.specs.Rectangles.{height}
 use Rattle.plane_view.specs.Shapes.{max_samples}
-use Rattle.plane_view.specs.declared.Rect.{Rect}
 use Rattle.plane_view.specs.declared.Shape.{Shape}
-use Rattle.text_line.specs.Chain.{and_then}
+use Rattle.text_line.specs.Chain.{and_then, ok_unless}
 use Rattle.tag_rules.specs.Values.{Dirs, number_of, required_number_of, required_numbers_of}
 use Rattle.tag_rules.specs.declared.faults.FrameFault.{FrameFault}
 use Rattle.tag_rules.specs.declared.faults.FrameFault.TheVariants.{Layout as LayoutFault, Outside}
@@ -17,17 +18,9 @@ use Rattle.dng_tags.specs.declared.record.Segment.{Segment}
 use Rattle.tag_rules.specs.declared.tags.Tag.TheVariants.{RowsPerStrip, StripByteCounts, StripOffsets, TileByteCounts}
 use Rattle.tag_rules.specs.declared.tags.Tag.TheVariants.{TileLength, TileOffsets, TileWidth}
 
--- how many parts of a size make up a length, the last one maybe smaller
-abbrev pub parts : (length size : ℕ) → ℕ
-parts length size = (length + (size - 1)) / size
-
--- how many segments stand side by side
-abbrev pub segments_across : Shape → Cut → ℕ
-segments_across shape cut = parts shape.cols cut.cols
-
 -- how many segments there are
 abbrev pub segment_count : Shape → Cut → ℕ
-segment_count shape cut = parts shape.rows cut.rows * segments_across shape cut
+segment_count shape cut = part_count shape cut.rows cut.cols
 
 -- a layout that isn't too large, with an offset and a byte count for each segment
 unfoldable pub checked_layout : Shape → Layout → Result Layout FrameFault
@@ -83,22 +76,11 @@ layout_of dirs shape =
     and_then (number_of dirs TileWidth) (λ found.
     and_then (tiles_or_strips dirs shape found) (λ layout. checked_layout shape layout))
 
--- the pixels of segment k: segments are numbered row by row, and clipped to the image
-unfoldable pub rect_at : Shape → Cut → ℕ → Rect
-rect_at shape cut k =
-    let top = k / segments_across shape cut * cut.rows in
-    let left = k % segments_across shape cut * cut.cols in
-    record {
-      top = top;
-      left = left;
-      bottom = min (top + cut.rows) shape.rows;
-      right = min (left + cut.cols) shape.cols;
-    }
-
--- segment k. A tile is coded at its full size, a strip at the size of its pixels.
+-- segment k. Its pixels are part k of the image: segments are numbered row by row, and clipped to the image. A tile is
+-- coded at its full size, a strip at the size of its pixels.
 unfoldable pub segment_at : Shape → Layout → ℕ → Segment
 segment_at shape layout k =
-    let rect = rect_at shape layout.cut k in
+    let rect = part shape layout.cut.rows layout.cut.cols k in
     record {
       at = slice_index layout.offsets k;
       length = slice_index layout.counts k;
@@ -115,14 +97,9 @@ segments_in shape layout = map (segment_at shape layout) (range_with_len 0 (segm
 abbrev pub passes_end : ℕ → Segment → Bool
 passes_end len segment = nat_lt len (segment.at + segment.length)
 
--- a value, or the refusal of the segment that passes the end
-abbrev pub refused_outside : {A : Type 0} → Option ℕ → A → Result A FrameFault
-refused_outside (Some k) value = Err (Outside k)
-refused_outside None value = Ok value
-
 -- the group of the segments: none of them passes the end of the file
 unfoldable pub segments_of : Dirs → Shape → Result (List Segment) FrameFault
 segments_of dirs shape =
     and_then (layout_of dirs shape) (λ layout.
     let segments = segments_in shape layout in
-    refused_outside (position (passes_end (length dirs.bytes)) segments) segments)
+    ok_unless (option_map Outside (position (passes_end (length dirs.bytes)) segments)) segments)

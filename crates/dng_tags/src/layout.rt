@@ -2,17 +2,16 @@
 
 ghost use Rattle.std.specs.Prelude.{◌≡◌, ◌*◌, ◌<◌, ◌≤◌, length, IfNone, IfOk, IfSome, Ok};
 ghost use Rattle.std.specs.List.{position};
-ghost use Rattle.plane_view.specs.Rectangles.{height, width};
 ghost use Rattle.tag_rules.specs.Answers.{Answers};
 ghost use Rattle.dng_tags.specs.Facts.{AreParts, IsRawShape, LieWithin};
-ghost use Rattle.dng_tags.specs.Layout.{checked_layout, checked_tile_side, layout_of, parts, passes_end, rect_at};
-ghost use Rattle.dng_tags.specs.Layout.{segment_at, segment_count, segments_across, segments_in, segments_of};
+ghost use Rattle.dng_tags.specs.Layout.{checked_layout, checked_tile_side, layout_of, passes_end, segment_at};
+ghost use Rattle.dng_tags.specs.Layout.{segment_count, segments_in, segments_of};
 ghost use Rattle.dng_tags.specs.Layout.{strip_rows_of, strips_of, tiles_of};
 ghost use Rattle.dng_tags.specs.inner.Layout.{HasSides, IsChecked};
 
 use crate::record::Segment;
 use lists::Items;
-use plane_view::{MAX_SAMPLES, Rect, Shape};
+use plane_view::{MAX_SAMPLES, Shape};
 use std::alloc::Global;
 use tag_rules::{Directories, FrameFault, Tag, Whole};
 
@@ -20,7 +19,7 @@ use tag_rules::{Directories, FrameFault, Tag, Whole};
 const MAX_TILE_SIDE: u32 = 16384;
 
 /// The most segments.
-const MAX_SEGMENTS: u64 = 65536;
+const MAX_SEGMENTS: u32 = 65536;
 
 /// How an image is cut into segments.
 #[derive(Clone, Copy, Debug, PartialEq, Eq)]
@@ -34,54 +33,14 @@ pub struct Cut {
 }
 
 impl Cut {
-    /// How many segments stand side by side.
-    fn across(self, shape: Shape) -> u32
-        requires shape { IsRawShape shape }
-        requires sides { HasSides self }
-        ensures { result ≡ segments_across shape self }
-    {
-        parts(shape.cols, self.cols)
-    }
-
     /// How many segments there are.
-    fn count(self, shape: Shape) -> u64
+    fn count(self, shape: Shape) -> u32
         requires shape { IsRawShape shape }
         requires sides { HasSides self }
         ensures { result ≡ segment_count shape self }
     {
-        u64::from(parts(shape.rows, self.rows)) * u64::from(self.across(shape))
+        shape.part_count(self.rows, self.cols)
     }
-
-    /// The pixels of segment k.
-    #[tactic(auto, using(crate::proofs::LayoutLemmas::top_within), unfolding(crate::specs::Layout::rect_at))]
-    fn rect(self, shape: Shape, k: u32) -> Rect
-        requires shape { IsRawShape shape }
-        requires sides { HasSides self }
-        requires within { k < segment_count shape self }
-        ensures value { result ≡ rect_at shape self k }
-        ensures some { result.top < result.bottom }
-    {
-        let across = self.across(shape);
-        let top = k / across * self.rows;
-        let left = k % across * self.cols;
-        Rect {
-            top,
-            left,
-            bottom: (top + self.rows).min(shape.rows),
-            right: (left + self.cols).min(shape.cols),
-        }
-    }
-}
-
-/// How many parts of a size make up a length.
-fn parts(length: u32, size: u32) -> u32
-    requires length { length ≤ 8192 }
-    requires some { 1 ≤ size }
-    requires size { size ≤ 16384 }
-    ensures value { result ≡ parts length size }
-    ensures most { result ≤ 8192 }
-{
-    (length + (size - 1)) / size
 }
 
 /// How an image is cut, and where the segments stand in the file.
@@ -105,8 +64,8 @@ impl<'a> Layout<'a> {
         let coded = u64::from(self.cut.rows) * u64::from(self.cut.cols);
         if count > MAX_SEGMENTS
             || coded > u64::from(MAX_SAMPLES)
-            || u64::from(self.offsets.len()) < count
-            || u64::from(self.counts.len()) < count
+            || self.offsets.len() < count
+            || self.counts.len() < count
         {
             return Err(FrameFault::Layout);
         }
@@ -114,14 +73,14 @@ impl<'a> Layout<'a> {
     }
 
     /// Segment k.
-    #[tactic(auto, unfolding(crate::specs::Layout::segment_at, crate::specs::Layout::rect_at))]
+    #[tactic(auto, unfolding(crate::specs::Layout::segment_at))]
     fn segment(&self, shape: Shape, k: u32) -> Segment
         requires shape { IsRawShape shape }
         requires checked { IsChecked shape self.now }
         requires within { k < segment_count shape self.now.cut }
         ensures { result ≡ segment_at shape self.now k }
     {
-        let rect = self.cut.rect(shape, k);
+        let rect = shape.part(self.cut.rows, self.cut.cols, k);
         let full_rows = if self.cut.padded {
             self.cut.rows
         } else {
@@ -144,7 +103,7 @@ impl<'a> Layout<'a> {
         ensures answer { Answers result (Ok (segments_in shape self.now)) }
         ensures parts { IfOk result (AreParts shape) }
     {
-        let count = self.cut.count(shape) as u32;
+        let count = self.cut.count(shape);
         let mut segments = Vec::new(alloc);
         for k in 0..count {
             if segments.push(self.segment(shape, k)).is_err() {

@@ -1,7 +1,8 @@
 -- The parts that a plane is cut into make it up.
-use Rattle.std.proofs.Common.{◌≡◌, ℕ, ◌+◌, ◌*◌, ◌/◌, ◌%◌, ◌<◌, ◌≤◌, length, slice_get, Some, sym, ◌∙◌}
+use Rattle.std.proofs.Common.{◌≡◌, ℕ, ◌+◌, ◌*◌, ◌/◌, ◌%◌, ◌<◌, ◌≤◌, length, map, slice_get, Some, sym, ◌∙◌}
 use Rattle.std.proofs.Common.{ap, arith}
 use Rattle.std.specs.Int.{div_ceil}
+use Rattle.std.specs.List.{range_with_len}
 use Rattle.std.proofs.Math.Nat.{mul-le-mul_right, div-eq_of_lt-le}
 use Rattle.std.proofs.lemmas.Grind.{div_ceil_times}
 use Rattle.std.proofs.lemmas.Nat.{div-mul-add, mod-mul-add, mul-add-lt, div_below, mod_below, div-add-mod'}
@@ -61,23 +62,30 @@ part_lies shape rows cols k =
 pub parts_length : (shape : Shape) (rows cols : ℕ) → length (parts shape rows cols) ≡ part_count shape rows cols
 parts_length shape rows cols = length-map-range_with_len (part shape rows cols) 0 (part_count shape rows cols)
 
+-- element k of a list that is made of the numbers below n
+pub made_at : {X : Type 0} (f : ℕ → X) (n k : ℕ) → k < n → slice_get (map f (range_with_len 0 n)) k ≡ Some (f k)
+made_at f n k below =
+    slice_get-get_or (map f (range_with_len 0 n)) k (f 0) (omega (arith, length-map-range_with_len f 0 n))
+    ∙ ap Some (get_or-map-range_with_len f 0 n k k (f 0) below (omega arith))
+
+-- what is found in such a list is made of its place
+pub made_found : {X : Type 0} (f : ℕ → X) (n k : ℕ) (x : X) → slice_get (map f (range_with_len 0 n)) k ≡ Some x
+    → (k < n) × (x ≡ f k)
+made_found f n k x at =
+    let made = map f (range_with_len 0 n) in
+    let below : k < n = omega (arith, length-map-range_with_len f 0 n, slice_get_within made k x at) in
+    let same : Some x ≡ Some (f k) = sym at ∙ made_at f n k below in
+    (below, (cc))
+
 -- a part by its number
 pub part_at : (shape : Shape) (rows cols k : ℕ) → k < part_count shape rows cols
     → slice_get (parts shape rows cols) k ≡ Some (part shape rows cols k)
-part_at shape rows cols k below =
-    let none : Rect = record { top = 0; left = 0; bottom = 0; right = 0 } in
-    slice_get-get_or (parts shape rows cols) k none (omega (arith, parts_length shape rows cols))
-    ∙ ap Some (get_or-map-range_with_len (part shape rows cols) 0 (part_count shape rows cols) k k none below
-    (omega arith))
+part_at shape rows cols k below = made_at (part shape rows cols) (part_count shape rows cols) k below
 
 -- a part that is found by its number
 pub part_found : (shape : Shape) (rows cols k : ℕ) (rect : Rect) → slice_get (parts shape rows cols) k ≡ Some rect
     → (k < part_count shape rows cols) × (rect ≡ part shape rows cols k)
-part_found shape rows cols k rect at =
-    let below : k < part_count shape rows cols =
-    omega (arith, parts_length shape rows cols, slice_get_within (parts shape rows cols) k rect at) in
-    let same : Some rect ≡ Some (part shape rows cols k) = sym at ∙ part_at shape rows cols k below in
-    (below, (cc))
+part_found shape rows cols k rect at = made_found (part shape rows cols) (part_count shape rows cols) k rect at
 
 -- each pixel is in a part
 pub pixel_part : (shape : Shape) (rows cols r c : ℕ) → 0 < rows → 0 < cols → r < shape.rows → c < shape.cols
