@@ -1,8 +1,7 @@
 -- The group of the segments: the strips or tiles, and that they lie in the file (TIFF 6.0, section 8, "StripOffsets",
 -- "RowsPerStrip", "StripByteCounts", and section 15, "Tiled Images"). The limits are this project's own.
-use Rattle.std.specs.Prelude.{ℕ, ◌+◌, ◌-◌, ◌*◌, ◌^◌, nat_le, nat_lt, ◌&&◌, if◌then◌else◌, Bool, true, false}
-use Rattle.std.specs.Prelude.{List, map, length, slice_index, Option, None, Some, option_map, Result, Ok, Err, unwrap_or}
-use Rattle.std.specs.Prelude.{min}
+use Rattle.std.specs.Prelude.{ℕ, ◌+◌, ◌-◌, ◌*◌, ◌^◌, nat_le, nat_lt, ◌&&◌, if◌then◌else◌, Bool, true, false, min, List}
+use Rattle.std.specs.Prelude.{map, length, slice_index, Option, None, Some, option_map, Result, Ok, Err, unwrap_or}
 use Rattle.std.specs.List.{position, range_with_len}
 use Rattle.plane_view.specs.Cuts.{part, part_count}
 use Rattle.plane_view.specs.Rectangles.{height}

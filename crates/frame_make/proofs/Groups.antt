@@ -1,14 +1,15 @@
 -- The groups of the frame definition over a made frame's entries.
 use Rattle.std.proofs.Common.{◌≡◌, ℕ, zero, suc, ◌+◌, ◌-◌, ◌*◌, ◌/◌, ◌%◌, ◌<◌, ◌≤◌, min, nat_eq, ℤ, pos, true, false}
-use Rattle.std.proofs.Common.{List, [], ◌∷◌, length, map, Ok, refl, ap, ◌∙◌, arith}
+use Rattle.std.proofs.Common.{List, [], ◌∷◌, length, map, Ok, refl, ap, ap₂, ◌∙◌, arith}
 use Rattle.std.specs.Prelude.{nat_le, nat_lt, ◌||◌, ◌+ℤ◌, ◌-ℤ◌, slice_index_or}
-use Rattle.std.specs.Int.{int_max}
+use Rattle.std.specs.Int.{div_ceil, int_max}
 use Rattle.std.specs.List.{fold, range_with_len}
 use Rattle.std.proofs.lemmas.Bool.{le-leb, le-ltb, lt-ltb}
 use Rattle.std.proofs.lemmas.Int.{clamps, ints}
-use Rattle.std.proofs.lemmas.Nat.{div-mul-add}
+use Rattle.std.proofs.Math.Nat.{div_self, mod_self}
+use Rattle.plane_view.specs.Cuts.{part}
 use Rattle.plane_view.specs.Plane.{coloured}
-use Rattle.plane_view.specs.Rectangles.{whole_rect}
+use Rattle.plane_view.specs.Rectangles.{height as height_of, whole_rect}
 use Rattle.plane_view.specs.declared.Rect.{Rect}
 use Rattle.plane_view.specs.declared.Shape.{Shape}
 use Rattle.opcode_list.specs.Trims.{first_misfit, left_after}
@@ -33,7 +34,7 @@ use Rattle.dng_tags.specs.Colours.{analog_of, calibration_of, colour_of, gains_o
 use Rattle.dng_tags.specs.Form.{depth_of, form_of, format_of, lossless_of, photometric_of, samples_per_pixel_of}
 use Rattle.dng_tags.specs.Form.{shape_of, side_of}
 use Rattle.dng_tags.specs.Frame.{frame_of, record_of}
-use Rattle.dng_tags.specs.Layout.{checked_layout, layout_of, parts, rect_at, segment_at, segment_count, segments_in}
+use Rattle.dng_tags.specs.Layout.{checked_layout, layout_of, segment_at, segment_count, segments_in}
 use Rattle.dng_tags.specs.Layout.{segments_of, strip_rows_of, strips_of}
 use Rattle.dng_tags.specs.Listed.{area_shape, listed_of}
 use Rattle.dng_tags.specs.Origin.{needed_version_of, origin_of, raw_directory_of, subfile_type_at, tiff_of, version_of}
@@ -47,10 +48,8 @@ use Rattle.frame_make.proofs.Reading as read
 use Rattle.frame_make.proofs.Reading.{HasEntries, absent, absent_field, absent_fractions}
 
 -- a length is one part of itself
-one_part : (n : ℕ) → 1 ≤ n → parts n n ≡ 1
-one_part n h =
-    let split : n + (n - 1) ≡ 1 * n + (n - 1) = omega arith in
-    ap (λ m. m / n) split ∙ div-mul-add 1 n (n - 1) (omega arith)
+one_part : (n : ℕ) → 1 ≤ n → div_ceil n n ≡ 1
+one_part n h = ap₂ (λ q r. q + min 1 r) (div_self h) (mod_self n)
 
 rect_same : (top left bottom right h w : ℕ) → top ≡ 0 → left ≡ 0 → bottom ≡ h → right ≡ w
     → (let rect : Rect = record { top = top; left = left; bottom = bottom; right = right } in rect) ≡ whole_rect h w
@@ -190,10 +189,10 @@ module _ {bytes : List ℕ} {w h bits method count : ℕ} (e : HasEntries bytes 
   strips small =
       rw (read.offset_is e, strip_rows, read.count_is e small) refl
 
-  across : parts w w ≡ 1
+  across : div_ceil w w ≡ 1
   across = one_part w (omega (arith, sides.some_cols))
 
-  down : parts h h ≡ 1
+  down : div_ceil h h ≡ 1
   down = one_part h (omega (arith, sides.some_rows))
 
   one : segment_count shape cut ≡ 1
@@ -207,17 +206,18 @@ module _ {bytes : List ℕ} {w h bits method count : ℕ} (e : HasEntries bytes 
   unfolding layout_of number_of numbers_of
   told_layout small = rw (absent e TileWidth refl, strips small, checked) refl
 
-  rect : rect_at shape cut 0 ≡ whole_rect h w
-  unfolding rect_at
+  rect : part shape h w 0 ≡ whole_rect h w
   rect = rw across (rect_same _ _ _ _ h w (omega arith) (omega arith) (omega arith) (omega arith))
 
   segment : segment_at shape layout 0 ≡ one_strip w h count
   unfolding segment_at
   segment =
       let tall : h - 0 ≡ h = omega arith in
+      let with_rect : Rect → Segment =
+      λ r. record { at = 146; length = count; rect = r; full_rows = height_of r; full_cols = w } in
       let with_rows : ℕ → Segment =
       λ n. record { at = 146; length = count; rect = whole_rect h w; full_rows = n; full_cols = w } in
-      rw rect (ap with_rows tall)
+      ap with_rect rect ∙ ap with_rows tall
 
   in_one : segments_in shape layout ≡ one_strip w h count ∷ []
   unfolding segments_in
