@@ -1,10 +1,11 @@
 -- The groups of the active area, of the size at demosaicing and of the default crop (DNG 1.6, chapter 4, "ActiveArea",
 -- "DefaultCropOrigin", "DefaultCropSize"). The rounding and the smallest size are this project's own.
 use Rattle.std.specs.Prelude.{ℕ, nat_le, nat_lt, ◌&&◌, if◌then◌else◌, ℤ, pos, ◌+ℤ◌, ◌-ℤ◌, int_lt, Bool, List}
-use Rattle.std.specs.Prelude.{slice_index, slice_index_or, Option, Result, Ok, Err, unwrap_or, unsigned_abs}
-use Rattle.std.specs.Int.{int_div_euclid, int_max, int_min}
+use Rattle.std.specs.Prelude.{slice_index, slice_index_or, Option, Result, Ok, Err, unwrap_or}
+use Rattle.std.specs.Int.{int_div_euclid}
 use Rattle.std.specs.Option.{option_map, option_map_or, option_transpose}
 use Rattle.plane_view.specs.Rectangles.{whole_rect}
+use Rattle.plane_view.specs.Samples.{held_within}
 use Rattle.plane_view.specs.declared.Rect.{Rect}
 use Rattle.plane_view.specs.declared.Shape.{Shape}
 use Rattle.text_line.specs.Chain.{and_then}
@@ -51,10 +52,6 @@ extent_in xs =
 -- the same of a tag, if it is there
 unfoldable pub extent_of : Dirs → Tag → Result (Option Extent) FrameFault
 extent_of dirs tag = and_then (fractions_of dirs tag) (λ found. option_transpose (option_map extent_in found))
-
--- an edge held within a length
-abbrev pub held_within : ℕ → ℤ → ℕ
-held_within length edge = unsigned_abs (int_min (int_max edge (pos 0)) (pos length))
 
 -- the pixels of a plane that a crop has: from its origin on, as many as its size says
 abbrev pub crop_rect : (rows cols : ℕ) → Extent → Extent → Rect

@@ -4,8 +4,9 @@ ghost use Rattle.std.specs.Prelude.{◌≡◌, ◌≤◌, ◌^◌, ℕ, pos, neg
 ghost use Rattle.std.specs.Prelude.{IsTrue};
 ghost use Rattle.std.specs.Int.{int_div_euclid};
 ghost use Rattle.plane_view.specs.Rectangles.{IsNonEmpty, LiesIn, height, whole_rect, width};
+ghost use Rattle.plane_view.specs.Samples.{held_within};
 ghost use Rattle.tiff_dirs.specs.Numbers.{IsOf32Bits};
-ghost use Rattle.dng_tags.specs.Area.{active_of, crop_of, crop_rect, extent_in, extent_of, has_pixels, held_within};
+ghost use Rattle.dng_tags.specs.Area.{active_of, crop_of, crop_rect, extent_in, extent_of, has_pixels};
 ghost use Rattle.dng_tags.specs.Area.{large_enough, rect_in, rest_of};
 ghost use Rattle.dng_tags.specs.Facts.{IsRawShape};
 ghost use Rattle.dng_tags.specs.inner.Area.{IsBelow};

@@ -5,11 +5,12 @@ use Rattle.std.specs.Prelude.{nat_le, nat_lt, ◌||◌, ◌+ℤ◌, ◌-ℤ◌, 
 use Rattle.std.specs.Int.{div_ceil, int_max}
 use Rattle.std.specs.List.{fold, range_with_len}
 use Rattle.std.proofs.lemmas.Bool.{le-leb, le-ltb, lt-ltb}
-use Rattle.std.proofs.lemmas.Int.{clamps, ints}
+use Rattle.std.proofs.lemmas.Int.{ints}
 use Rattle.std.proofs.Math.Nat.{div_self, mod_self}
 use Rattle.plane_view.specs.Cuts.{part}
 use Rattle.plane_view.specs.Plane.{coloured}
 use Rattle.plane_view.specs.Rectangles.{height as height_of, whole_rect}
+use Rattle.plane_view.specs.Samples.{held_within}
 use Rattle.plane_view.specs.declared.Rect.{Rect}
 use Rattle.plane_view.specs.declared.Shape.{Shape}
 use Rattle.opcode_list.specs.Trims.{first_misfit, left_after}
@@ -25,7 +26,7 @@ use Rattle.tag_rules.specs.declared.tags.Tag.TheVariants.{DefaultCropSize, DngBa
 use Rattle.tag_rules.specs.declared.tags.Tag.TheVariants.{ForwardMatrix2, ImageLength, ImageWidth, LinearizationTable}
 use Rattle.tag_rules.specs.declared.tags.Tag.TheVariants.{NewSubfileType, OpcodeList1, OpcodeList2, OpcodeList3}
 use Rattle.tag_rules.specs.declared.tags.Tag.TheVariants.{RowsPerStrip, SampleFormat, SamplesPerPixel, TileWidth}
-use Rattle.dng_tags.specs.Area.{active_of, crop_of, crop_rect, extent_of, has_pixels, held_within, large_enough}
+use Rattle.dng_tags.specs.Area.{active_of, crop_of, crop_rect, extent_of, has_pixels, large_enough}
 use Rattle.dng_tags.specs.Area.{rest_of}
 use Rattle.dng_tags.specs.Black.{black_at, greatest, greatest_black, levels_of, levels_under, repeat_of, row_by_row}
 use Rattle.dng_tags.specs.Black.{span_of}
@@ -57,10 +58,12 @@ rect_same top left bottom right h w a b c d = cc
 
 -- an edge of a crop of all
 edge_is : (n : ℕ) → held_within n (pos 0 +ℤ (pos n -ℤ pos 0)) ≡ n
-edge_is n = omega (arith, ints, clamps)
+edge_is n =
+    let all : pos 0 +ℤ (pos n -ℤ pos 0) ≡ pos n = omega (arith, ints) in
+    ap (held_within n) all ∙ (let least : min n n ≡ n = omega arith in least)
 
 start_is : (n : ℕ) → held_within n (pos 0) ≡ 0
-start_is n = omega (arith, ints, clamps)
+start_is n = omega arith
 
 -- no black level but 0
 zero_alone : (k : ℕ) → slice_index_or (pos 0 ∷ []) k (pos 0) ≡ pos 0
