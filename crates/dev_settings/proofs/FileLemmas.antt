@@ -76,11 +76,11 @@ pub length_listed : (vs : List Value) → length (listed (items_view vs)) ≡ le
 length_listed [] = refl
 length_listed (v ∷ vs) = let on = length_listed vs in omega (arith, on)
 
--- a list of more than 32
+-- more than 32 integers are no value
 pub integers_of-many : {X : Type 0} → (read : X → Option ℤ) (xs : List X) → 32 < length xs → None ≡ integers_of read xs
 integers_of-many read xs many = let test : leb (length xs) 32 ≡ false = search (rules, tests) in rw test refl
 
--- and of at most 32
+-- at most 32 are read one by one
 pub integers_of-few : {X : Type 0} → (read : X → Option ℤ) (xs : List X) → length xs ≤ 32
     → each read xs ≡ integers_of read xs
 integers_of-few read xs few = let test : leb (length xs) 32 ≡ true = search (rules, tests) in rw test refl

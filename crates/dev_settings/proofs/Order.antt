@@ -16,7 +16,7 @@ use Rattle.toml.specs.View.{members_view, view}
 use Rattle.toml.proofs.Views.{Entry}
 use Rattle.dev_settings.specs.File.{IsLeastUnknown, first_unknown, is_known}
 
--- a text
+-- a text, by the numbers of its bytes
 abbrev Text : Type 0
 Text = List ℕ
 

@@ -12,7 +12,7 @@ points_of-first [] point h e = absurd (omega arith)
 points_of-first (x ∷ []) point h e = absurd (omega arith)
 points_of-first (x ∷ y ∷ ns) point h e = rw (← e) refl
 
--- where they are no point
+-- integers whose first two are no point are no points
 pub points_of_none : (ns : List ℤ) → 2 ≤ length ns → None ≡ first_point_of ns → points_of ns ≡ None
 points_of_none [] h e = absurd (omega arith)
 points_of_none (x ∷ []) h e = absurd (omega arith)

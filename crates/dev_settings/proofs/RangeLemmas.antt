@@ -99,7 +99,7 @@ knots_range : (points : List (ℕ × ℕ)) (b : Bool) → are_knots points ≡ b
 knots_range points true e = e
 knots_range points false e = tt
 
--- of any value nothing is said
+-- of a value that may be there, nothing is asked
 any : {X : Type 0} (o : Option X) → IfSome o (λ _. ⊤)
 any None = tt
 any (Some x) = tt
@@ -162,13 +162,13 @@ change_range key.Matrix w = after_map MatrixInRange ChangeInRange (λ choice. ch
 change_range key.Tone w = after_map CurveInRange ChangeInRange (λ curve. change.Tone curve) (tone_of w) (λ curve h. h)
     (tone_range w)
 
--- settings by the ranges of each
+-- settings are in range where each of them is
 each_in_range : (s : Settings) → s.version ≡ 1 → ChangeInRange (change.White s.white) → ChangeInRange (change.Wb s.wb)
     → s.exposure ≤ 65536 → MatrixInRange s.matrix → CurveInRange s.tone → SettingsInRange s
 each_in_range s version white wb exposure matrix tone =
     record { version = version; white = white; wb = wb; exposure = exposure; matrix = matrix; tone = tone }
 
--- settings stay in range over such a change
+-- settings in range are in range after a change that is in range
 pub changed_range : (c : Change) (s : Settings) → ChangeInRange c → SettingsInRange s → SettingsInRange (changed c s)
 changed_range (change.Black level) s h r = each_in_range _ r.version r.white r.wb r.exposure r.matrix r.tone
 changed_range (change.White level) s h r = each_in_range _ r.version h r.wb r.exposure r.matrix r.tone

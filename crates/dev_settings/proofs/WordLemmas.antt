@@ -37,7 +37,7 @@ words_from_letter [] = refl
 words_from_letter (byte ∷ line) = letter_step byte line (position_or_len is_letter line) (eqb byte 32) refl
     (words_from_letter line)
 
--- the parts after the first, of what begins with the space that ends it
+-- the further parts of a line, given from the space on that ends its first part
 abbrev other_parts : List ℕ → List (List ℕ)
 other_parts [] = []
 other_parts (byte ∷ line) = slice_split is_space line
@@ -124,7 +124,7 @@ value_fits word i n =
     let most : 10 ^ length word ≤ 10 ^ 10 = pow-le-pow_right {n = 10} (omega arith) n.short in
     omega arith
 
--- one digit more
+-- the value of one digit more
 pub value_step : (word : List ℕ) (i : ℕ) → IsNumeral word → i < length word
     → (48 ≤ get_or word i 0)
     × (digits_value 10 (take i word) * 10 + (get_or word i 0 - 48) ≡ digits_value 10 (take (i + 1) word))
@@ -140,7 +140,7 @@ words_none line e =
     let past = position_none is_letter line e in
     sym (words_from_letter line) ∙ ap words (drop_all (position_or_len is_letter line) line past)
 
--- what begins with a letter
+-- the words of a line that begins with a letter
 words_of_start : (line : List ℕ) → 0 < length line → is_letter (get_or line 0 0) ≡ true
     → words line ≡ take (position_or_len is_space line) line ∷ words (drop (position_or_len is_space line) line)
 words_of_start [] h e = absurd (omega arith)

@@ -6,7 +6,7 @@ use Rattle.std.proofs.lemmas.Bool.{cases_lt}
 use Rattle.linearise.specs.Linear.{linear_at, rescaled}
 use Rattle.linearise.specs.inner.Rows.{IsLinearTo}
 
--- one more sample
+-- one more sample of a row has become a linear value
 pub linear_more : (span : ℕ) (across : List ℤ) (down : ℤ) (old xs : List ℕ) (k : ℕ) (above : ℤ) (v : ℕ) → k < length xs
     → IsLinearTo span across down old xs k
     → v ≡ rescaled (pos span) above → above ≡ pos (256 * get_or xs k 0) -ℤ (get_or across k (pos 0) +ℤ down)

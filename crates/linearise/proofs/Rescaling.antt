@@ -89,7 +89,7 @@ part_small span x some within =
     let below : part_of span x < 65536 = div_below (131070 * x + span) (2 * span) 65536 (omega arith) (omega arith) in
     omega arith
 
--- below a divisor, nothing is left
+-- the quotient of a number below the divisor, held within 0 and 65535, is 0
 clips_low : (t : ℤ) (d : ℕ) → 1 ≤ d → t <ℤ pos d → clipped (int_div_euclid t (pos d)) ≡ 0
 clips_low (pos a) d some below =
     let lt : a < d = omega (arith, ints) in

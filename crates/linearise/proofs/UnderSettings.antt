@@ -17,7 +17,7 @@ unfolding span_of greatest_black
 span_under levels rows cols None white most is = ap (λ m. pos (256 * white_under levels white) -ℤ m) is
 span_under levels rows cols (Some n) white most is = ap (λ m. pos (256 * white_under levels white) -ℤ m) is
 
--- one black level everywhere
+-- under a black level of settings each place has that level
 pub even_at : (levels : Levels) (n r c : ℕ) → black_at (with_black levels (Some n)) r c ≡ pos (256 * n)
 even_at levels n r c =
     let row : r % 1 ≡ 0 = omega (arith, mod_below r 1 (omega arith)) in
@@ -26,7 +26,7 @@ even_at levels n r c =
     ap (λ i. get_or (pos (256 * n) ∷ []) i (pos 0) +ℤ get_or [] c (pos 0) +ℤ get_or [] r (pos 0)) place
     ∙ omega (arith, ints)
 
--- is the greatest
+-- a black level of settings is the greatest one
 pub greatest_even : (levels : Levels) (n rows cols : ℕ) → 1 ≤ rows → 1 ≤ cols
     → pos (256 * n) ≡ greatest_black (with_black levels (Some n)) rows cols
 greatest_even levels n rows cols some_rows some_cols =

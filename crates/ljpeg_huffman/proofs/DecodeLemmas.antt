@@ -28,7 +28,7 @@ prefix_more a b c p = (p.0 ++ c, ap (λ x. x ++ c) p.1 ∙ append_assoc a p.0 c)
 prefix_size : (a b : List Bool) → IsPrefix a b → length a ≤ length b
 prefix_size a b p = omega (arith, ap length p.1 ∙ length-append a p.0)
 
--- a shorter one of two words that begin the same bits begins the longer one
+-- of two words that begin the same bits, the shorter one begins the longer one
 prefix_of_longer : (a b bits : List Bool) → IsPrefix a bits → IsPrefix b bits → length a ≤ length b → IsPrefix a b
 prefix_of_longer a b bits pa pb h = append_shorter a b pa.0 pb.0 (sym pa.1 ∙ pb.1) h
 
@@ -206,7 +206,7 @@ module _ (table : Table) (free : IsPrefixFree table) (sizes : All (λ e. length 
           },
         )
 
--- the same of bits that are equal to those
+-- the same of equal bits
 pub ended_at : (bits : List Bool) (table : Table) → IsPrefixFree table → All (λ e. length e.0 ≤ 16) table
     → (held word : ℕ) (bytes : List ℕ) → (31 ≤ held) ⊎ (data_bits bytes ≡ []) → (window : ℕ) → IsWindow held word window
     → (size category : ℕ) → size ≤ 16 → category ≤ 16

@@ -16,7 +16,7 @@ use Rattle.ljpeg_huffman.specs.inner.Tables.{high_end}
 use Rattle.binary_digits.proofs.DigitLemmas.{length-bits_of, number_of-bits_of, number_of-append, number_of-lt}
 use Rattle.binary_digits.proofs.DigitLemmas.{append_shorter}
 
--- The least number that 16 bits spell which begin with a code word of at most 16.
+-- The least number of 16 bits that begins with a code word of at most 16 bits.
 abbrev pub low_end : List Bool → ℕ
 low_end word = number_of word * 2 ^ (16 - length word)
 
@@ -123,7 +123,7 @@ prefix_range a b p h =
     let upper = mul-lt-mul_of_pos_right less (pow_pos (16 - length b)) in
     (rw (unit, ← mul_assoc) lower, rw (unit, ← mul_assoc) upper)
 
--- a range is not turned round
+-- the range of 16 bits that a word begins doesn't end before it begins
 low_high : (word : List Bool) → low_end word ≤ high_end word
 low_high word = let e : number_of word ≤ number_of word + 1 = omega arith in mul-le-mul_right (2 ^ (16 - length word)) e
 

@@ -20,7 +20,7 @@ Spells-push (v ∷ values) tables bits more value s one = (
       (λ place. tables (suc place)) s.1 more value s.4 one,
 )
 
--- what begins the same bits and spells one difference
+-- of the same bits one prefix spells one difference, and what follows it is the same
 pub one_difference : (table : Table) → IsPrefixFree table → (a b x y : List Bool) (m n : ℤ) → SpellsOne table a m
     → SpellsOne table b n → a ++ x ≡ b ++ y → (a ≡ b) × (m ≡ n) × (x ≡ y)
 one_difference table free a b x y m n s t e =

@@ -39,7 +39,7 @@ taken_count tables bits rest line place h t =
     let sizes : length (take place line) ≡ length t.values = ap length t.each ∙ simp length-map in
     omega (arith, sizes, length-take place line)
 
--- one more
+-- one more difference was taken
 pub takes_more : (tables : ℕ → Table) (bits middle more rest : List Bool) (line : List ℕ) (place number : ℕ) (value : ℤ)
     → place < length line → Takes tables bits (take place line) middle → middle ≡ more ++ rest
     → SpellsOne (tables place) more value → number ≡ modulo value
@@ -62,7 +62,7 @@ pub refused_by : (table : Table) (bits : List Bool) (answer : Result ℤ BitFaul
 refused_by table bits answer Ended is ended none = ended.0 is
 refused_by table bits answer NoCode is ended none = none.0 is
 
--- none any more
+-- no further difference can be taken
 pub stops : (tables : ℕ → Table) (bits middle : List Bool) (line : List ℕ) (place size : ℕ) (f : BitFault)
     → place < length line → length line ≡ size → Takes tables bits (take place line) middle
     → IsRefused (tables place) middle f → StopsShort tables bits size f

@@ -179,7 +179,7 @@ pub sample_bits-none : (scan : Scan) (samples : List ℕ) → sample_bits scan s
 unfolding sample_bits
 sample_bits-none told samples = refl
 
--- the numbers up to one more
+-- the places below count + 1 are those below count, and count
 pub one_place : (count : ℕ) → range_with_len 0 (count + 1) ≡ range_with_len 0 count ++ count ∷ []
 one_place count =
     let same : ℕ → ℕ = λ n. n in

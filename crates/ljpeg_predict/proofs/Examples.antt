@@ -1,6 +1,5 @@
 -- The stream definition at work, computed: 2 by 2 samples of 12 bits by predictor 1, with the code word 0 for category
--- 0 and
--- 10 for category 1.
+-- 0 and 10 for category 1.
 use Rattle.std.proofs.Common.{◌≡◌, ℕ, [], ◌∷◌, ◌++◌, List, Ok, Err, refl}
 use Rattle.binary_digits.specs.Digits.{bits_of, number_of}
 use Rattle.ljpeg_huffman.specs.Words.{code_words, space_from, table_fault, words_from, words_of_length}

@@ -23,7 +23,7 @@ none_so_far R from line = record {
   left = λ k h. refl;
 }
 
--- one more, where predictions don't look at the place
+-- one more number is replaced, where predictions don't look at its place
 pub more_so_far : (R : List ℕ → ℕ → ℕ → Type 0) (from : ℕ) (numbers line : List ℕ) (place p v : ℕ) → from ≤ place
     → place < length line → ((k q : ℕ) → from ≤ k → k ≤ place → R line k q → R (set line place v) k q) → R line place p
     → v ≡ (p + get_or line place 0) % 2 ^ 16 → SoFar R from numbers line place

@@ -143,7 +143,7 @@ pub some_line : (lines row size : ℕ) → size ≡ lines * row → size ≢ 0 �
 some_line zero row size e h = absurd (h (omega arith))
 some_line (suc lines) row size e h = omega arith
 
--- a prediction hangs on earlier samples alone
+-- a prediction rests on earlier samples alone
 pub prediction_agrees : (scan : Scan) (xs ys : List ℕ) (place : ℕ) → 0 < components scan → 0 < row_length scan
     → ((k : ℕ) → k < place → get_or xs k 0 ≡ get_or ys k 0) → prediction scan xs place ≡ prediction scan ys place
 prediction_agrees scan xs ys place some row same =

@@ -13,7 +13,7 @@ unfolding chosen_tables
 chosen_count tables numbers n h = length-map (take n numbers) (λ k. unwrap_or (told_table tables k) [])
     ∙ omega (arith, length-take n numbers)
 
--- one of two tests of which none holds
+-- where neither of two tests holds, each fails
 neither : (a b : Bool) → (◌||◌ a b) ≡ false → (a ≡ false) × (b ≡ false)
 neither false false e = (refl, refl)
 neither false true e = absurd (cc)
@@ -23,7 +23,7 @@ same_told : (o : Option Table) (a b : Table) → is_none o ≡ false → unwrap_
 same_told None a b e = absurd (cc)
 same_told (Some t) a b e = refl
 
--- where each table was told it doesn't matter what stands for one that wasn't
+-- where each table was told, it doesn't matter what stands for one that wasn't
 same_tables : (tables : List (Option Table)) (other : Table) (numbers : List ℕ) → lacks_table tables numbers ≡ false
     → map (λ k. unwrap_or (told_table tables k) other) numbers ≡ chosen_tables tables numbers
 unfolding lacks_table chosen_tables

@@ -31,7 +31,7 @@ pub stuffed_marked : (byte : ℕ) → eqb byte 255 ≡ true → stuffed (byte �
 unfolding stuffed
 stuffed_marked byte h = rw h refl
 
--- nothing was written yet
+-- bits that are all pending
 pub adds_nothing : (old : List ℕ) (bits : List Bool) (word held : ℕ) → bits_of held word ≡ bits
     → Adds old old bits (record { word = word; held = held })
 adds_nothing old bits word held e = record {

@@ -8,7 +8,7 @@ use Rattle.plane_view.specs.Rectangles.{HasPixel, has_pixel}
 use Rattle.plane_view.proofs.Pixels.{pixel_of_test}
 use Rattle.stage_core.specs.Bases.{AreCells}
 
--- an element that passes a test, by its number
+-- some element of a list passes a test, where the one of a number does
 pub any_at : {A : Type 0} (p : A → Bool) (xs : List A) (k : ℕ) (x : A) → slice_get xs k ≡ Some x → p x ≡ true
     → list_any p xs ≡ true
 any_at p [] k x at pass = cc

@@ -24,7 +24,7 @@ pub record Fetched (P : Plane) (cells : List Rect) (first now : TileMut) (k : �
   pub samples : (i : ℕ) (cell : Rect) → i < k → slice_get cells i ≡ Some cell → (r c p : ℕ) → HasPixel cell r c
       → p < P.planes → sample_at (loan now) r c p ≡ sample P r c p
 
--- none yet
+-- at first no cell was fetched
 pub fetched_none : (P : Plane) (cells : List Rect) (t : TileMut) → Fetched P cells t t 0
 fetched_none P cells t = record {
   slice = refl;
@@ -115,7 +115,7 @@ whole_list P planes samples whole long agrees =
     ∙ sym (agrees.samples r c p (record { top = omega arith; bottom = hr; left = omega arith; right = hc }) hp))
     ∙ sym (same_samples P.rows P.cols P.planes (sample P) P.samples whole (λ r c p hr hc hp. refl))
 
--- the same of a part
+-- the same of a lent part that is the whole of the plane
 pub whole_samples : (P : Plane) (L : Lent) → IsWhole P → L.rect ≡ whole_rect P.rows P.cols → IsFull L
     → AgreesWith P L L.rect → L.samples ≡ P.samples
 whole_samples P L whole is full agrees =

@@ -81,7 +81,7 @@ made_by shaped formula whole L need first now part inputs outputs rests same has
     (subst (λ (s : Shape). AgreesWith (plane_by (shaped s) (formula s (sample P))) (loan now) (tile_rect first))
     (sym (shape_is P whole is)) made)
 
--- a value is alike to itself
+-- equal stages are alike
 pub alike_same : {S : Type 0} (takes : S → Shape → Type 0) (shaped : S → Shape → Shape)
     (needed : S → Shape → Rect → Rect) (apply : S → Plane → Plane) (s t : S) → s ≡ t
     → AreAlike takes shaped needed apply s t

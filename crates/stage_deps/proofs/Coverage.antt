@@ -32,7 +32,7 @@ pub meeting_bounds : (cells rects : List Rect) → All (λ k. k < length cells) 
 meeting_bounds cells rects = All-weaker (λ k. k < 0 + length cells) (λ k. k < length cells) (λ k h. omega arith)
     (meeting cells rects) (bounds_from rects cells 0)
 
--- one more in front
+-- a number in a list is in the list with one more in front
 contains_cons : (x y : ℕ) (xs : List ℕ) → Contains xs x → Contains (y ∷ xs) x
 contains_cons x y xs found = (suc found.0, omega (arith, found.1), found.2)
 
@@ -59,7 +59,7 @@ among_from rects (cell ∷ cells) from (suc k) below test =
 meets_pixel : (a b : Rect) (r c : ℕ) → HasPixel a r c → HasPixel b r c → meets a b ≡ true
 meets_pixel a b r c in_a in_b = grind (arith, nat_tests)
 
--- so does a cell that has a pixel with one of the rectangles in common
+-- a cell that has a pixel in common with one of the rectangles meets one of them
 pub meets_one_pixel : (rects : List Rect) (cell rect : Rect) (j r c : ℕ) → slice_get rects j ≡ Some rect
     → HasPixel cell r c → HasPixel rect r c → meets_one rects cell ≡ true
 meets_one_pixel rects cell rect j r c at in_cell in_rect =
@@ -138,7 +138,7 @@ next_cell cells k cell at =
     ∙ ap (λ (x : Rect). x ∷ drop (suc k) cells) (get_or_from_slice_get cells k cell cell at)
     ∙ ap (λ (n : ℕ). cell ∷ drop n cells) (sym (add-one k))
 
--- one more cell that meets one of the rectangles
+-- the numbers so far and those still to come: one more cell, which meets one of the rectangles
 pub meeting_more : (rects cells : List Rect) (items : List ℕ) (k : ℕ) (cell : Rect) → slice_get cells k ≡ Some cell
     → meets_one rects cell ≡ true
     → (items ++ k ∷ []) ++ meeting_from rects (k + 1) (drop (k + 1) cells) ≡ items
@@ -147,14 +147,14 @@ meeting_more rects cells items k cell at met =
     append_assoc items (k ∷ []) (meeting_from rects (k + 1) (drop (k + 1) cells))
     ∙ ap (λ (xs : List ℕ). items ++ xs) (sym (ap (meeting_from rects k) (next_cell cells k cell at) ∙ (rw met refl)))
 
--- and one that meets none
+-- the same for a cell that meets none of them
 pub meeting_less : (rects cells : List Rect) (items : List ℕ) (k : ℕ) (cell : Rect) → slice_get cells k ≡ Some cell
     → meets_one rects cell ≡ false
     → items ++ meeting_from rects (k + 1) (drop (k + 1) cells) ≡ items ++ meeting_from rects k (drop k cells)
 meeting_less rects cells items k cell at not_met =
     ap (λ (xs : List ℕ). items ++ xs) (sym (ap (meeting_from rects k) (next_cell cells k cell at) ∙ (rw not_met refl)))
 
--- one more cell of those of numbers
+-- the rectangles of the first i + 1 numbers are those of the first i and one more
 pub cells_more : (cells : List Rect) (numbers : List ℕ) (i : ℕ) (items : List Rect) (rect : Rect) → i < length numbers
     → items ≡ cells_at cells (take i numbers) → rect ≡ cell_at cells (get_or numbers i 0)
     → items ++ rect ∷ [] ≡ cells_at cells (take (i + 1) numbers)

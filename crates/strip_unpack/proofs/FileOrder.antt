@@ -65,7 +65,7 @@ pub length-file_order : (order : Order) (depth : ℕ) (bits : List Bool) → dep
     → length (file_order order depth bits) ≡ length bits
 length-file_order order depth bits most = let r = reorders order depth most in r.size bits
 
--- each sample of a depth has so many digits, they tell the sample, and any so many digits are those of a sample
+-- each sample of a depth has so many digits, and two samples that have the same digits are one
 pub record IsCode (f : ℕ → List Bool) (depth : ℕ) : Type 0 where
   pub long : (x : ℕ) → length (f x) ≡ depth
   pub same : (x y : ℕ) → x < 2 ^ depth → y < 2 ^ depth → f x ≡ f y → x ≡ y

@@ -113,7 +113,7 @@ formula_spelled order depth rows cols bytes most long = record {
       (row_spelled order depth cols (slice_chunk bytes w k) most (length_part w k rows bytes h long));
 }
 
--- and nothing else
+-- bytes spell no samples but those by formula
 pub formula_alone : (order : Order) (depth rows cols : ℕ) (bytes others : List ℕ) → depth ≤ 16
     → needed_bytes depth rows cols ≤ length bytes → SpellsRows order depth rows cols others bytes
     → others ≡ unpacked order depth rows cols bytes

@@ -12,7 +12,7 @@ use Rattle.binary_digits.proofs.DigitLemmas.{append_same_size}
 use Rattle.strip_unpack.proofs.FileOrder.{IsCode, sample_code}
 use Rattle.strip_unpack.proofs.Rows.{length_part}
 
--- two rows of as many samples that have the same digits are one
+-- two rows of equally many samples that have the same digits are one
 same_row : (f : ℕ → List Bool) (depth : ℕ) → IsCode f depth → (xs ys : List ℕ) (p q : List Bool) → length xs ≡ length ys
     → All (λ x. x < 2 ^ depth) xs → All (λ x. x < 2 ^ depth) ys → flat_map f xs ++ p ≡ flat_map f ys ++ q → xs ≡ ys
 same_row f depth code [] [] p q long hx hy e = refl
