@@ -13,7 +13,7 @@ use Rattle.dev_settings.specs.Keys.{key_of}
 use Rattle.dev_settings.specs.Values.{Written, name, integer, integers, integers_of, change_of}
 use Rattle.dev_settings.specs.Words.{words, number_of, signed_of, unsigned_of}
 
--- the integer that a word writes; a minus sign may stand before it or may not
+-- the integer that a word writes; a minus sign may stand before it where the first argument is true
 abbrev pub integer_of : Bool → List ℕ → Option ℤ
 integer_of true word = signed_of word
 integer_of false word = unsigned_of word
@@ -23,7 +23,8 @@ abbrev pub integer_or_name : Option ℤ → List ℕ → Written
 integer_or_name (Some n) word = integer n
 integer_or_name None word = name word
 
--- the value that words give: one word is an integer or a name, several are integers
+-- the value that words give: one word is an integer or a name, several are integers, with minus signs where `minus` is
+-- true
 abbrev pub value_of : Bool → List (List ℕ) → Option Written
 value_of minus (word ∷ []) = Some (integer_or_name (integer_of minus word) word)
 value_of minus ws = option_map (λ ns. integers ns) (integers_of (integer_of minus) ws)

@@ -13,7 +13,7 @@ use Rattle.dev_settings.specs.declared.settings.MatrixChoice.TheVariants.{Own}
 use Rattle.dev_settings.specs.declared.settings.Change.{Change}
 use Rattle.dev_settings.specs.declared.settings.Change.TheVariants.{White, Wb, Exposure, Matrix, Tone}
 
--- the entries of a matrix of the user's own are in their range
+-- the entries of a matrix of the user's own are in their range, in 65536ths
 abbrev pub MatrixInRange : MatrixChoice → Type 0
 MatrixInRange (Own entries) = All IsEntry entries
 MatrixInRange _ = ⊤
@@ -23,7 +23,7 @@ abbrev pub CurveInRange : Curve → Type 0
 CurveInRange (Knots points) = IsTrue (are_knots points)
 CurveInRange _ = ⊤
 
--- the new value of a setting is in its range
+-- the new value of a setting is in its range; a black level and a kind of demosaicing always are
 abbrev pub ChangeInRange : Change → Type 0
 ChangeInRange (White white) = IfSome white (λ level. 1 ≤ level)
 ChangeInRange (Wb gains) = IfSome gains (All IsGain)

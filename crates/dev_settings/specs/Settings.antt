@@ -7,7 +7,7 @@ use Rattle.dev_settings.specs.declared.settings.MatrixChoice.TheVariants.{Auto}
 use Rattle.dev_settings.specs.declared.settings.Change.{Change}
 use Rattle.dev_settings.specs.declared.settings.Change.TheVariants.{Black, White, Demosaic, Wb, Exposure, Matrix, Tone}
 
--- the settings where nothing is set
+-- the settings where nothing is set; an exposure of 1024 is 1
 abbrev pub standard_settings : Settings
 standard_settings = record {
   version = 1;

@@ -39,7 +39,7 @@ level_of low (name text) = if bytes_eq text (codes "frame") then Some None else 
 level_of low (integer n) = option_map (λ level. Some level) (within low 65535 n)
 level_of low (integers ns) = None
 
--- how colours are found
+-- how the colours that a pixel lacks are found, by name
 abbrev pub demosaic_of : Written → Option Kind
 demosaic_of (name text) =
     if bytes_eq text (codes "malvar") then Some Malvar
@@ -47,7 +47,7 @@ demosaic_of (name text) =
 demosaic_of (integer n) = None
 demosaic_of (integers ns) = None
 
--- a gain in 4096ths
+-- a gain in 4096ths, from 1 to 2^20
 abbrev pub gain_of : ℤ → Option ℕ
 gain_of n = within 1 1048576 n
 
@@ -62,7 +62,7 @@ wb_of (name text) = if bytes_eq text (codes "shot") then Some None else None
 wb_of (integer n) = None
 wb_of (integers ns) = option_map (λ gains. Some gains) (gains_of ns)
 
--- an exposure in 1024ths
+-- an exposure in 1024ths, from 0 to 2^16
 abbrev pub exposure_of : Written → Option ℕ
 exposure_of (name text) = None
 exposure_of (integer n) = within 0 65536 n
@@ -91,7 +91,7 @@ matrix_of (name text) = matrix_named text
 matrix_of (integer n) = None
 matrix_of (integers ns) = option_map (λ entries. Own entries) (entries_of ns)
 
--- the point with these coordinates
+-- the point with these coordinates, each from 0 to 65535
 abbrev pub point_of : ℤ → ℤ → Option (ℕ × ℕ)
 point_of x y = option_and_then (λ across. option_map (λ up. (across, up)) (within 0 65535 y)) (within 0 65535 x)
 

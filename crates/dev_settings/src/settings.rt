@@ -39,7 +39,7 @@ pub struct Settings {
     pub tone: Curve,
 }
 
-/// A new value of one setting.
+/// A new value of one setting, in the units of [`Settings`].
 #[derive(Clone, Copy, Debug, PartialEq, Eq)]
 pub enum Change {
     Black(Option<u16>),

@@ -10,11 +10,11 @@ use Rattle.plane_view.specs.Samples.{clipped}
 unfoldable pub by_table : List ℕ → ℕ → ℕ
 by_table table v = if length table == 0 then v else slice_index table (min v (length table - 1))
 
--- a level above black, where white is `span` above the greatest black, as a part of 65535: rounded to the nearest
--- number, a half up, and held within 0 and 65535
+-- a level above black, where white is `span` above the greatest black, both in 256ths, as a part of 65535: rounded to
+-- the nearest number, a half up, and held within 0 and 65535
 unfoldable pub rescaled : (span above : ℤ) → ℕ
 rescaled span above = clipped (int_div_euclid (pos 131070 *ℤ above +ℤ span) (pos 2 *ℤ span))
 
--- the linear value of a sample after the table, over the black level of its place
+-- the linear value of a sample after the table; the black level of its place is in 256ths
 abbrev pub linear_at : (span black : ℤ) → ℕ → ℕ
 linear_at span black v = rescaled span (pos (256 * v) -ℤ black)

@@ -36,7 +36,7 @@ pub record IsArea (s : Parameters) (input : Shape) : Type 0 where
   pub rows : input.rows ≡ s.rows
   pub cols : input.cols ≡ s.cols
 
--- the black level at row r, column c
+-- the black level at row r, column c, in 256ths
 abbrev pub black_of : Parameters → ℕ → ℕ → ℤ
 black_of s r c = slice_index_or s.blacks (r * s.cols + c) (pos 0)
 

@@ -2,7 +2,7 @@
 use Rattle.std.specs.Prelude.{ℕ, ◌*◌, pos, [], ◌∷◌, Option, None, Some, unwrap_or}
 use Rattle.dng_tags.specs.declared.record.Levels.{Levels}
 
--- levels whose black is n everywhere: what columns and rows add has no part in it
+-- levels whose black is n, a sample value, everywhere: what columns and rows add has no part in it
 abbrev pub with_black : Levels → Option ℕ → Levels
 with_black levels None = levels
 with_black levels (Some n) =
@@ -16,7 +16,7 @@ with_black levels (Some n) =
       white = levels.white;
     }
 
--- the white level that counts
+-- the white level that counts, a sample value
 abbrev pub white_under : Levels → Option ℕ → ℕ
 white_under levels white = unwrap_or white levels.white
 

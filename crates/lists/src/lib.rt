@@ -90,7 +90,7 @@ impl<T: Copy> Items<T> {
     }
 }
 
-/// Two are equal where they have as many elements, and those at each place are equal.
+/// Two are equal where they have equally many elements, and those at each place are equal.
 impl<T: PartialEq> PartialEq for Items<T> {
     ghost eq = { pointwise T.eq };
 

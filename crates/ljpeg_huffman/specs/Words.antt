@@ -9,13 +9,15 @@ use Rattle.ljpeg_huffman.specs.declared.table.TableFault.TheVariants.{Empty, Too
 abbrev pub Table : Type 0
 Table = List (List Bool × ℕ)
 
--- The code words of one length, one more each, for the categories of that length (T.81, figure C.2).
+-- The code words of `size` bits for these categories: the first is the number `code`, and each next one is one more
+-- (T.81, figure C.2).
 unfoldable pub words_of_length : ℕ → ℕ → List ℕ → Table
 words_of_length size code [] = []
 words_of_length size code (category ∷ categories) =
     (bits_of size code, category) ∷ words_of_length size (suc code) categories
 
--- The code words from a length on, of which the first is `code`. At each next length the code is doubled (figure C.2).
+-- The code words from a length on, of which the first is the number `code`, as many of each length as its count says.
+-- At each next length the code is doubled (figure C.2).
 unfoldable pub words_from : ℕ → ℕ → List ℕ → List ℕ → Table
 words_from size code [] values = []
 words_from size code (count ∷ counts) values =

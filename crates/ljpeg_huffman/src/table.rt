@@ -46,7 +46,7 @@ impl Error for TableFault {}
 pub struct CodeTable {
     /// How many code words have 1 bit, 2 bits and so on.
     counts: [u8; 16],
-    /// The categories in the order of the code words, and zeros.
+    /// The categories in the order of the code words, and zeros behind them.
     values: [u8; 256],
     /// By the next `SHORT` bits, the code word that begins them, where it has no more bits.
     short: [Option<Code>; 512],

@@ -15,7 +15,7 @@ use Rattle.ljpeg_predict.specs.Scans.{Scan, table_at}
 use Rattle.ljpeg_predict.specs.declared.JpegFault.{JpegFault}
 use Rattle.ljpeg_predict.specs.declared.JpegFault.TheVariants as fault
 
--- what follows a code word that bits begin with
+-- the bits behind a code word, where they begin with it
 abbrev pub behind : List Bool → List Bool → Option (List Bool)
 behind [] bits = Some bits
 behind (digit ∷ word) [] = None

@@ -85,6 +85,6 @@ pub record IsStream (samples : List ℕ) (lines columns precision selection : �
       ≡ sample_bits (written_scan precision lines columns predictor []) samples (length samples) ++ replicate ones true
   pub is : bytes ≡ head precision lines columns selection ++ stuffed stretch ++ 0xFF ∷ 0xD9 ∷ []
 
--- the new bytes are the old ones and some that are such
+-- the new bytes are the old ones and, behind them, some for which P holds
 abbrev pub Appends : List ℕ → List ℕ → (List ℕ → Type 0) → Type 0
 Appends old new P = (bytes : List ℕ) × P bytes × (new ≡ old ++ bytes)

@@ -43,7 +43,7 @@ frame_of body =
       ids = id 0 ∷ id 1 ∷ id 2 ∷ id 3 ∷ [];
     }))))
 
--- a table of code words with its number, and the bytes behind it
+-- a table of code words with its number, 0 to 3, and the bytes behind it
 pub record Numbered : Type 0 where
   pub number : ℕ
   pub table : Table

@@ -43,7 +43,7 @@ struct Shape {
     predictor: Predictor,
 }
 
-/// What the sample at a place is predicted as, which stands in a column.
+/// What the sample at a place, which stands in `column` of its line, is predicted as.
 fn predicted_at(shape: Shape, samples: &[u16], place: usize, column: usize) -> u16
     requires low { 1 ≤ shape.precision }
     requires high { shape.precision ≤ 16 }
@@ -211,7 +211,8 @@ fn write_stream(
     Ok(())
 }
 
-/// Appends the stream of some samples, lines of `cols`, each predicted by the predictor of a selection value.
+/// Appends a stream of one component: samples of `precision` bits, in lines of `cols`, each predicted by the predictor
+/// of a selection value, 1 to 7 (T.81, table H.1).
 ///
 /// # Errors
 ///

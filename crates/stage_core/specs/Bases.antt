@@ -6,7 +6,8 @@ use Rattle.plane_view.specs.declared.Shape.{Shape}
 use Rattle.plane_view.specs.Rectangles.{HasPixel, has_pixel}
 use Rattle.stage_core.specs.Planes.{IsPart}
 
--- the cells make up a plane of this shape: each pixel of it is in exactly one of them
+-- the cells make up a plane of this shape: each of them is a part of it, with a pixel, and each pixel of it is in
+-- exactly one of them
 pub record MakeUp (cells : List Rect) (s : Shape) : Type 0 where
   pub part : (k : ℕ) (rect : Rect) → slice_get cells k ≡ Some rect → IsPart rect s
   pub covered : (r c : ℕ) → r < s.rows → c < s.cols → list_any (has_pixel r c) cells ≡ true

@@ -36,7 +36,8 @@ pub record AreAlike {S : Type 0} (takes : S → Shape → Type 0) (shaped : S �
   pub needs : (input : Shape) (rect : Rect) → needed s input rect ≡ needed t input rect
   pub meanings : (P : Plane) → apply s P ≡ apply t P
 
--- a formula of a sample, from samples by place, rests on those of a rectangle
+-- a formula of a sample at row, column and plane, from samples by place, rests, for the places of `rect`, on those of
+-- `need`; `inputs` and `outputs` are the numbers of planes
 pub record RestsOn (formula : (ℕ → ℕ → ℕ → ℕ) → ℕ → ℕ → ℕ → ℕ) (inputs : ℕ) (need : Rect) (outputs : ℕ) (rect : Rect) :
     Type 0 where
   pub same : (f g : ℕ → ℕ → ℕ → ℕ) → ((r c p : ℕ) → HasPixel need r c → p < inputs → f r c p ≡ g r c p) → (r c p : ℕ)

@@ -6,7 +6,7 @@ pub record Stamped : Type 0 where
   pub stamps : List ℕ
   pub changes : ℕ
 
--- plane 0 and those of so many stages, before any change
+-- plane 0 and those of so many stages, before any change: each has the stamp 0
 abbrev pub begun : ℕ → Stamped
 begun stages = record { stamps = replicate (stages + 1) 0; changes = 0 }
 
@@ -14,6 +14,6 @@ begun stages = record { stamps = replicate (stages + 1) 0; changes = 0 }
 abbrev pub stamped_from : (first stamp : ℕ) → List ℕ → List ℕ
 stamped_from first stamp stamps = take first stamps ++ replicate (length stamps - first) stamp
 
--- one change more, of that plane
+-- one change more, of plane `first`: its number is the stamp of that plane and of those above it
 abbrev pub changed : (first : ℕ) → Stamped → Stamped
 changed first s = record { stamps = stamped_from first (s.changes + 1) s.stamps; changes = s.changes + 1 }

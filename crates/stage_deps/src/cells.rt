@@ -23,7 +23,7 @@ fn meets_one(cell: &Rect, rects: &[Rect]) -> bool
     rects.iter().any(|rect| meets(cell, rect))
 }
 
-/// The same, where all the rectangles lie in one.
+/// Whether a cell meets one of the rectangles, which all lie in `around`.
 pub(crate) fn meets_within(cell: &Rect, around: &Rect, rects: &[Rect]) -> bool
     requires { All (λ rect. LiesIn rect around.now) rects.now }
     ensures { result ≡ meets_one rects.now cell.now }

@@ -15,7 +15,9 @@ use std::alloc::{AllocError, Global};
 /// The square cells of a plane of a shape, numbered row by row. Those at the right and at the bottom are clipped.
 #[derive(Clone, Copy, Debug, PartialEq, Eq)]
 pub struct Grid {
+    /// The shape of the plane.
     pub shape: Shape,
+    /// The side of a cell in pixels, 16 to 512.
     pub side: u32,
     ghost limits: { IsShape shape },
     ghost least: { 16 ≤ side },

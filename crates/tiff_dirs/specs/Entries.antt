@@ -9,14 +9,14 @@ use Rattle.tiff_dirs.specs.Numbers.{long_at, short_at}
 use Rattle.tiff_dirs.specs.declared.EntryFault.{EntryFault}
 use Rattle.tiff_dirs.specs.declared.EntryFault.TheVariants.{BadEntry, FloatTag}
 
--- an entry as its 12 bytes say, and the place in the file where its value begins
+-- an entry as its 12 bytes say (`kind` is the number of its type), and the place in the file where its value begins
 pub record Slot : Type 0 where
   pub tag : ℕ
   pub kind : ℕ
   pub count : ℕ
   pub place : ℕ
 
--- an entry with the bytes of its value
+-- an entry with the bytes of its value, as they stand in the file
 pub record Field : Type 0 where
   pub tag : ℕ
   pub kind : ℕ

@@ -38,6 +38,7 @@ pub struct Field {
     pub tag: u16,
     /// The type's number.
     pub kind: u16,
+    /// How many numbers the entry says that it has.
     pub count: u32,
     pub value: Value,
 }
