@@ -211,8 +211,8 @@ fn write_stream(
     Ok(())
 }
 
-/// Appends a stream of one component: samples of `precision` bits, in lines of `cols`, each predicted by the predictor
-/// of a selection value, 1 to 7 (T.81, table H.1).
+/// Appends a stream of one component: the samples in lines of `cols`, each predicted by the predictor of a selection
+/// value, 1 to 7 (T.81, table H.1). The frame header says `precision`, 2 to 16 bits; samples past it are told as well.
 ///
 /// # Errors
 ///
