@@ -212,7 +212,7 @@ fn write_stream(
 }
 
 /// Appends a stream of one component: the samples in lines of `cols`, each predicted by the predictor of a selection
-/// value, 1 to 7 (T.81, table H.1). The frame header says `precision`, 2 to 16 bits; samples past it are told as well.
+/// value, 1 to 7 (T.81, table H.1). The frame header says `precision`, 2 to 16 bits; greater samples are coded too.
 ///
 /// # Errors
 ///
