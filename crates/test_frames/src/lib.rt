@@ -97,7 +97,7 @@ pub fn forward_identity(alloc: Global) -> Result<Field, AllocError> {
     Field::signed_rationals(alloc, 50964, &entries)
 }
 
-/// The entry of the strip's byte count, for so many samples of a size.
+/// The entry of the strip's byte count, for a number of samples of `size` bytes each.
 fn byte_count(alloc: Global, size: u32, samples: usize) -> Result<Field, AllocError> {
     let samples = u32::try_from(samples).map_err(|_| AllocError)?;
     let count = samples.checked_mul(size).ok_or(AllocError)?;
@@ -203,7 +203,7 @@ fn sample_bytes(alloc: Global, order: Order, samples: &[u16]) -> Result<Vec<u8>,
     Ok(bytes)
 }
 
-/// Writes bytes over those at an offset, where they fit.
+/// Writes bytes over those at an offset, where they fit; else it changes nothing.
 pub fn patch(file: &mut [u8], at: usize, bytes: &[u8]) {
     if at <= file.len() && bytes.len() <= file.len() - at {
         file[at..at + bytes.len()].copy_from_slice(bytes);

@@ -12,7 +12,7 @@ use lists::Items;
 use std::alloc::{AllocError, Global};
 use tiff_dirs::Order;
 
-/// Where the directories begin, and where the data does.
+/// The offsets in the file at which the directories begin, and the one of the data.
 #[derive(Drop)]
 struct Layout {
     directories: Items<u32>,
