@@ -6,6 +6,7 @@ use Rattle.std.specs.Bool.{OnTrue}
 use Rattle.std.specs.Result.{result_unwrap_or}
 use Rattle.std.proofs.lemmas.Bool.{eqb-true}
 use Rattle.std.proofs.lemmas.List.{length-map}
+use Rattle.std.proofs.lemmas.Map.Keys.{any_passes_from_place}
 use Rattle.std.proofs.lemmas.Option.{get_or_from_slice_get, same_Some, slice_get-map}
 use Rattle.plane_view.specs.Lent.{AgreesWith, Lent, sample_at}
 use Rattle.plane_view.specs.Rectangles.{HasPixel, has_pixel}
@@ -15,7 +16,6 @@ use Rattle.plane_view.proofs.Pixels.{has_pixel-true}
 use Rattle.plane_view.proofs.Samples.{get_or-samples_of, length-samples_of}
 use Rattle.stage_core.specs.Bases.{AreCells}
 use Rattle.stage_core.specs.Planes.{IsPart, IsPlane}
-use Rattle.stage_core.proofs.CellLemmas.{any_at}
 use Rattle.dng_tags.specs.Facts.{AreParts, IsFrame, IsPart as IsPartOf}
 use Rattle.dng_tags.specs.Raw.{coded_count, coded_place, coded_samples, coding_of, raw_sample, samples_in}
 use Rattle.dng_tags.specs.Raw.{segments_plane}
@@ -60,7 +60,7 @@ cells_of_parts shape segments parts =
             subst (λ (r : Rect). IsPart r shape) found.2 (record { some = is.some; inside = is.inside });
         covered = λ r c hr hc.
             let found = parts.covered r c hr hc in
-            any_at (has_pixel r c) (rects_of segments) found.0 found.1.rect
+            any_passes_from_place (has_pixel r c) (rects_of segments) found.0 found.1.rect
             (cell_of_segment segments found.0 found.1 found.2) (has_pixel-true r c found.1.rect found.3);
         apart = λ i k one other ati atk r c in_one in_other.
             let a = segment_of_cell segments i one ati in

@@ -1,5 +1,5 @@
 -- Cells of pixels.
-use Rattle.std.proofs.Common.{◌≡◌, ℕ, zero, suc, ◌<◌, Bool, true, List, [], ◌∷◌, Some, slice_get, inl, inr, refl}
+use Rattle.std.proofs.Common.{◌≡◌, ℕ, suc, ◌<◌, Bool, true, List, [], ◌∷◌, Some, slice_get, inl, inr, refl}
 use Rattle.std.specs.List.{list_any}
 use Rattle.std.proofs.lemmas.Bool.{cases_Bool}
 use Rattle.plane_view.specs.declared.Rect.{Rect}
@@ -8,17 +8,7 @@ use Rattle.plane_view.specs.Rectangles.{HasPixel, has_pixel}
 use Rattle.plane_view.proofs.Pixels.{pixel_of_test}
 use Rattle.stage_core.specs.Bases.{AreCells}
 
--- some element of a list passes a test, where the one of a number does
-pub any_at : {A : Type 0} (p : A → Bool) (xs : List A) (k : ℕ) (x : A) → slice_get xs k ≡ Some x → p x ≡ true
-    → list_any p xs ≡ true
-any_at p [] k x at pass = cc
-any_at p (y ∷ ys) zero x at pass = let same : y ≡ x = cc in rw same (rw pass refl)
-any_at p (y ∷ ys) (suc k) x at pass =
-    elim (cases_Bool (p y)) [
-      | inl t ↦ rw t refl
-      | inr f ↦ rw f (any_at p ys k x at pass)
-    ]
-
+-- an element that passes a test, by its number
 pub one_of_any : {A : Type 0} (p : A → Bool) (xs : List A) → list_any p xs ≡ true → (k : ℕ) × (x : A)
     × (slice_get xs k ≡ Some x) × (p x ≡ true)
 one_of_any p [] any = cc

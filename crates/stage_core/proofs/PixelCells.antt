@@ -2,13 +2,13 @@
 use Rattle.std.proofs.Common.{◌≡◌, ℕ, ◌+◌, ◌<◌, ◌≤◌, List, Some, length, map, slice_get, sym, ap, ◌∙◌, subst, arith}
 use Rattle.std.specs.List.{range_with_len}
 use Rattle.std.proofs.lemmas.List.FromFn.{get_or-map-range_with_len, length-map-range_with_len}
+use Rattle.std.proofs.lemmas.Map.Keys.{any_passes_from_place}
 use Rattle.std.proofs.lemmas.Option.{same_Some, slice_get-get_or, slice_get_within}
 use Rattle.plane_view.specs.declared.Rect.{Rect}
 use Rattle.plane_view.specs.Rectangles.{HasPixel, has_pixel}
 use Rattle.plane_view.proofs.Pixels.{has_pixel-true}
 use Rattle.stage_core.specs.Bases.{AreCells}
 use Rattle.stage_core.specs.Planes.{IsPart}
-use Rattle.stage_core.proofs.CellLemmas.{any_at}
 
 abbrev pixel : ℕ → Rect
 pixel k = record { top = 0; left = k; bottom = 1; right = k + 1 }
@@ -45,7 +45,7 @@ pixels_are_cells n some few =
               some = record { rows = omega arith; cols = omega arith };
               inside = record { top = omega arith; bottom = omega arith; left = omega arith; right = omega arith };
             });
-        covered = λ r c hr hc. any_at (has_pixel r c) (pixels n) c (pixel c) (pixel_at n c (omega arith))
+        covered = λ r c hr hc. any_passes_from_place (has_pixel r c) (pixels n) c (pixel c) (pixel_at n c (omega arith))
             (has_pixel-true r c (pixel c) (record {
               top = omega arith;
               bottom = hr;

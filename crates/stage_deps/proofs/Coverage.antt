@@ -6,12 +6,13 @@ use Rattle.std.proofs.lemmas.Grind.{common_steps}
 use Rattle.std.specs.List.{All, Contains}
 use Rattle.std.proofs.lemmas.List.{append-nil, drop_all, get_or-map, length-map}
 use Rattle.std.proofs.lemmas.List.Elements.{All-nil, All-cons, All-weaker}
+use Rattle.std.proofs.lemmas.Map.Keys.{any_passes_from_place}
 use Rattle.std.proofs.lemmas.Option.{get_or_from_slice_get, slice_get_within}
 use Rattle.std.specs.List.Sorted.{IsStrictlyIncreasing}
 use Rattle.std.proofs.lemmas.Bool.Decides.{nat_tests}
 use Rattle.plane_view.specs.declared.Rect.{Rect}
 use Rattle.plane_view.specs.Rectangles.{HasPixel, LiesIn}
-use Rattle.stage_core.proofs.CellLemmas.{any_at, one_of_any}
+use Rattle.stage_core.proofs.CellLemmas.{one_of_any}
 use Rattle.stage_deps.specs.Cells.{meets, meets_one, meeting, meeting_from, no_rect, cell_at, cells_at}
 
 -- the numbers are those of cells
@@ -63,7 +64,7 @@ meets_pixel a b r c in_a in_b = grind (arith, nat_tests)
 pub meets_one_pixel : (rects : List Rect) (cell rect : Rect) (j r c : ℕ) → slice_get rects j ≡ Some rect
     → HasPixel cell r c → HasPixel rect r c → meets_one rects cell ≡ true
 meets_one_pixel rects cell rect j r c at in_cell in_rect =
-    any_at (meets cell) rects j rect at (meets_pixel cell rect r c in_cell in_rect)
+    any_passes_from_place (meets cell) rects j rect at (meets_pixel cell rect r c in_cell in_rect)
 
 -- a cell that meets one of the rectangles meets what they lie in
 pub meets_around : (rects : List Rect) (cell around : Rect) → All (λ (rect : Rect). LiesIn rect around) rects

@@ -1,6 +1,7 @@
 -- The cells of a grid make up its plane, and there are few.
 use Rattle.std.proofs.Common.{◌≡◌, ℕ, ◌+◌, ◌-◌, ◌*◌, ◌<◌, ◌≤◌, ◌^◌, sym, subst, arith}
 use Rattle.std.specs.Int.{div_ceil}
+use Rattle.std.proofs.lemmas.Map.Keys.{any_passes_from_place}
 use Rattle.std.proofs.lemmas.Nat.{mul-le}
 use Rattle.plane_view.specs.declared.Rect.{Rect}
 use Rattle.plane_view.specs.declared.Shape.{Shape}
@@ -11,7 +12,6 @@ use Rattle.plane_view.proofs.Cuts.{one_part, part_at, part_begins, part_found, p
 use Rattle.plane_view.proofs.Pixels.{has_pixel-true}
 use Rattle.stage_core.specs.Bases.{MakeUp}
 use Rattle.stage_core.specs.Planes.{IsPart}
-use Rattle.stage_core.proofs.CellLemmas.{any_at}
 use Rattle.stage_deps.specs.Grids.{grid_cells}
 
 pub grid_makes_up : (shape : Shape) (side : ℕ) → 0 < side → MakeUp (grid_cells shape side) shape
@@ -25,7 +25,7 @@ grid_makes_up shape side some =
           });
       covered = λ r c row col.
           let there = pixel_part shape side side r c some some row col in
-          any_at (has_pixel r c) (grid_cells shape side) there.0 (part shape side side there.0)
+          any_passes_from_place (has_pixel r c) (grid_cells shape side) there.0 (part shape side side there.0)
           (part_at shape side side there.0 there.1)
           (has_pixel-true r c (part shape side side there.0) there.2);
       apart = λ i k one other at_i at_k r c in_i in_k.
