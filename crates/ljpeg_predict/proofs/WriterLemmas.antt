@@ -1,18 +1,16 @@
 -- Bits in stuffed bytes.
 use Rattle.std.proofs.Common.{◌≡◌, ℕ, zero, suc, ◌+◌, ◌-◌, ◌*◌, ◌/◌, ◌%◌, ◌^◌, ◌<◌, ◌≤◌, Bool, true, false, eqb, List}
-use Rattle.std.proofs.Common.{[], ◌∷◌, ◌++◌, length, replicate, take, refl, sym, ap, ap₂, ◌∙◌, arith, append_assoc}
+use Rattle.std.proofs.Common.{[], ◌∷◌, ◌++◌, length, replicate, refl, sym, ap, ap₂, ◌∙◌, arith, append_assoc}
 use Rattle.std.proofs.Common.{append-nil, length-append, pow_pos, pow-suc, lit<}
 use Rattle.std.proofs.Math.Nat.{mul-le-mul_right, pow-le-pow_right}
-use Rattle.std.proofs.Math.Seq.{take-append_seam}
 use Rattle.std.proofs.lemmas.Grind.{flat_map-append}
-use Rattle.std.proofs.lemmas.List.{length-take, take_all, take-take}
 use Rattle.std.proofs.lemmas.Nat.{one_shl, shr_high}
 use Rattle.ljpeg_huffman.proofs.DataLemmas.{bits_of-push}
 use Rattle.binary_digits.specs.Digits.{bits_of, byte_bits}
 use Rattle.binary_digits.proofs.DigitLemmas.{byte_bits-append, length-bits_of, length-byte_bits, bits_of-high}
 use Rattle.binary_digits.proofs.DigitLemmas.{bits_of-mod, bits_of-split, bits_of-suc, bits_of-zero}
 use Rattle.ljpeg_predict.specs.Encoding.{stuffed}
-use Rattle.ljpeg_predict.specs.inner.Writing.{Adds, AddsLast, KeepsPrefix}
+use Rattle.ljpeg_predict.specs.inner.Writing.{Adds, AddsLast}
 use Rattle.ljpeg_predict.specs.declared.writer.Pending.{Pending}
 
 pub stuffed-nil : stuffed [] ≡ []
@@ -95,15 +93,6 @@ adds_byte old middle new bits word before held byte more a is written =
           ∙ ap (λ x. byte_bits a.stretch ++ x) (sym split) ∙ a.digits;
     }
 
-pub kept_all : (a : List ℕ) → KeepsPrefix a a
-kept_all a = take_all (length a) a (omega arith)
-
--- a prefix that stays over two steps
-pub kept_twice : (a b c : List ℕ) → KeepsPrefix a b → KeepsPrefix b c → KeepsPrefix a c
-kept_twice a b c k l =
-    let short : length a ≤ length b = omega (arith, ap length k, length-take (length a) b) in
-    sym (take-take (length a) (length b) c short) ∙ ap (take (length a)) l ∙ k
-
 -- bits behind pending ones
 pub joined : (held word size number : ℕ) → held < 8 → size ≤ 24 → number < 2 ^ size
     → bits_of (held + size) (word % 256 * (1 * 2 ^ size % 2 ^ 32) + number) ≡ bits_of held word ++ bits_of size number
@@ -135,7 +124,3 @@ adds_none old word held none = record {
 -- ones as the code makes them
 pub shifted_ones : (size : ℕ) → size < 32 → bits_of size (1 * 2 ^ size % 2 ^ 32 - 1) ≡ replicate size true
 shifted_ones size h = ap (λ n. bits_of size (n - 1)) (one_shl size 32 h) ∙ all_ones size
-
--- what is appended leaves the prefix
-pub kept_prefix : (a more : List ℕ) → KeepsPrefix a (a ++ more)
-kept_prefix a more = take-append_seam a more

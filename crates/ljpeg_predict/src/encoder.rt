@@ -2,6 +2,7 @@
 
 ghost use Rattle.std.specs.Prelude.{ℕ, List, All, ◌≡◌, ◌+◌, ◌-◌, ◌*◌, ◌/◌, ◌%◌, ◌^◌, ◌<◌, ◌≤◌, [], ◌++◌, length};
 ghost use Rattle.std.specs.Prelude.{unsigned_abs, IfOk, OnOk, OnErr};
+ghost use Rattle.std.specs.Io.{StartsWith};
 ghost use Rattle.binary_digits.specs.Digits.{bits_of};
 ghost use Rattle.ljpeg_huffman.specs.Differences.{further_bits, modulo};
 ghost use Rattle.ljpeg_predict.specs.Encoding.{Appends, IsStream, category_of, code_word, difference_bits, extra_of};
@@ -9,7 +10,7 @@ ghost use Rattle.ljpeg_predict.specs.Encoding.{head, sample_bits, signed, writte
 ghost use Rattle.ljpeg_predict.specs.Headers.{predictor_of};
 ghost use Rattle.ljpeg_predict.specs.Prediction.{prediction};
 ghost use Rattle.ljpeg_predict.specs.Streams.{IsAnswer};
-ghost use Rattle.ljpeg_predict.specs.inner.Writing.{Adds, AddsLast, KeepsPrefix};
+ghost use Rattle.ljpeg_predict.specs.inner.Writing.{Adds, AddsLast};
 
 use crate::lines::predict;
 use crate::scan::{Predictor, read_predictor};
@@ -123,7 +124,7 @@ fn write_difference(number: u16, pending: Pending, out: &mut Vec<u8>) -> Result<
     ensures few { IfOk result (λ left. left.held < 8) }
     ensures bits { IfOk result (Adds out.old.items out.new.items
         (bits_of pending.held pending.word ++ difference_bits (signed number))) }
-    ensures kept { KeepsPrefix out.old.items out.new.items }
+    ensures kept { StartsWith out.new.items out.old.items }
 {
     let category = category_of(number);
     let (code, size) = code_of(category);
@@ -142,7 +143,7 @@ fn write_samples(shape: Shape, samples: &[u16], out: &mut Vec<u8>) -> Result<(),
     ensures ok { OnOk result ((lines : ℕ) → AddsLast out.old.items out.new.items
         (sample_bits (written_scan shape.precision lines shape.columns shape.predictor [])
         samples.now (length samples.now))) }
-    ensures kept { KeepsPrefix out.old.items out.new.items }
+    ensures kept { StartsWith out.new.items out.old.items }
 {
     let mut pending = Pending::NONE;
     let mut column = 0;
@@ -196,7 +197,7 @@ fn write_stream(
     requires predictor { predictor_of selection ≡ Ok shape.predictor }
     ensures ok { OnOk result (Appends out.old.items out.new.items
         (IsStream samples.now (length samples.now / shape.columns) shape.columns shape.precision selection)) }
-    ensures kept { KeepsPrefix out.old.items out.new.items }
+    ensures kept { StartsWith out.new.items out.old.items }
 {
     let lines = (samples.len() / shape.columns) as u16;
     let head = head_of(

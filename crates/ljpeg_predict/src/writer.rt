@@ -1,10 +1,11 @@
 //! Bits that are put together to stuffed bytes (ITU-T T.81, F.1.2.3).
 
-ghost use Rattle.std.specs.Prelude.{ℕ, List, ◌≡◌, ◌+◌, ◌-◌, ◌*◌, ◌^◌, ◌<◌, ◌≤◌, ◌++◌, [], ◌∷◌, All, IfOk, OnOk, take};
+ghost use Rattle.std.specs.Prelude.{ℕ, List, ◌≡◌, ◌+◌, ◌-◌, ◌*◌, ◌^◌, ◌<◌, ◌≤◌, ◌++◌, [], ◌∷◌, All, IfOk, OnOk};
 ghost use Rattle.std.specs.Prelude.{length};
+ghost use Rattle.std.specs.Io.{StartsWith};
 ghost use Rattle.binary_digits.specs.Digits.{bits_of, byte_bits};
 ghost use Rattle.ljpeg_predict.specs.Encoding.{stuffed};
-ghost use Rattle.ljpeg_predict.specs.inner.Writing.{Adds, AddsLast, KeepsPrefix};
+ghost use Rattle.ljpeg_predict.specs.inner.Writing.{Adds, AddsLast};
 
 use std::alloc::AllocError;
 
@@ -32,7 +33,7 @@ impl Pending {
         ensures few { IfOk result (λ left. left.held < 8) }
         ensures bits { IfOk result (Adds out.old.items out.new.items
             (bits_of self.held self.word ++ bits_of size number)) }
-        ensures kept { KeepsPrefix out.old.items out.new.items }
+        ensures kept { StartsWith out.new.items out.old.items }
     {
         let word = self.word % (1 << 8) * (1 << size) + number;
         let mut held = self.held + size;
@@ -47,7 +48,7 @@ impl Pending {
     pub(crate) fn finish(self, out: &mut Vec<u8>) -> Result<(), AllocError>
         requires { self.held < 8 }
         ensures ok { OnOk result (AddsLast out.old.items out.new.items (bits_of self.held self.word)) }
-        ensures kept { KeepsPrefix out.old.items out.new.items }
+        ensures kept { StartsWith out.new.items out.old.items }
     {
         if self.held > 0 {
             let ones = 8 - self.held;
@@ -60,7 +61,7 @@ impl Pending {
 /// Writes a byte of data, and a zero behind an FF.
 fn push_byte(byte: u8, out: &mut Vec<u8>) -> Result<(), AllocError>
     ensures ok { OnOk result (out.new.items ≡ out.old.items ++ stuffed (byte ∷ [])) }
-    ensures kept { KeepsPrefix out.old.items out.new.items }
+    ensures kept { StartsWith out.new.items out.old.items }
 {
     out.push(byte)?;
     if byte == 0xff {

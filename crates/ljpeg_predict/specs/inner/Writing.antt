@@ -1,12 +1,8 @@
 -- Bits that are put together to stuffed bytes (ITU-T T.81, F.1.2.3), for the functions that write them.
-use Rattle.std.specs.Prelude.{◌≡◌, ℕ, ◌<◌, Bool, true, List, ◌++◌, length, take, replicate}
+use Rattle.std.specs.Prelude.{◌≡◌, ℕ, ◌<◌, Bool, true, List, ◌++◌, replicate}
 use Rattle.binary_digits.specs.Digits.{bits_of, byte_bits}
 use Rattle.ljpeg_predict.specs.Encoding.{stuffed}
 use Rattle.ljpeg_predict.specs.declared.writer.Pending.{Pending}
-
--- what was there is a prefix of what is there now
-abbrev pub KeepsPrefix : List ℕ → List ℕ → Type 0
-KeepsPrefix old new = take (length old) new ≡ old
 
 -- the new bytes are the old ones and these bits in whole bytes, stuffed, but for those that are pending
 pub record Adds (old new : List ℕ) (bits : List Bool) (left : Pending) : Type 0 where

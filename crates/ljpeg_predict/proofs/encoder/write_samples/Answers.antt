@@ -1,4 +1,5 @@
-use Rattle.std.proofs.Common.{◌≡◌, ◌++◌, [], length, mod-eq_of_lt, arith, sym, ◌∙◌, subst}
+use Rattle.std.proofs.Common.{◌≡◌, ◌++◌, [], length, mod-eq_of_lt, arith, refl, sym, ◌∙◌, subst}
+use Rattle.std.proofs.Transfers.{starts_with_of_eq, starts_with_trans}
 use Rattle.std.proofs.lemmas.Result.{on_ok_weaker}
 use Rattle.binary_digits.specs.Digits.{bits_of}
 use Rattle.binary_digits.proofs.DigitLemmas.{bits_of-zero}
@@ -7,7 +8,7 @@ use Rattle.ljpeg_predict.specs.Encoding.{difference_at, difference_bits, sample_
 use Rattle.ljpeg_predict.specs.inner.Writing.{Adds, AddsLast}
 use Rattle.ljpeg_predict.proofs.EncodeLemmas.{adds_more, adds_more_last, difference_is, sample_bits-more}
 use Rattle.ljpeg_predict.proofs.EncodeLemmas.{sample_bits-none}
-use Rattle.ljpeg_predict.proofs.WriterLemmas.{adds_nothing, kept_all, kept_twice}
+use Rattle.ljpeg_predict.proofs.WriterLemmas.{adds_nothing}
 use Rattle.ljpeg_predict.proofs.encoder.write_samples.Goals as goal
 use Rattle.ljpeg_predict.proofs.encoder.write_samples.Goals.{then-column-shape, else-column-shape}
 
@@ -16,7 +17,7 @@ loop-place-init c = record {
   bits = λ lines. adds_nothing _ _ _ _ (bits_of-zero 0 ∙ sym (sample_bits-none _ _));
   few = omega arith;
   column = sym (mod-eq_of_lt c.requires.columns);
-  kept = kept_all _;
+  kept = starts_with_of_eq _ _ refl;
 }
 
 pub loop-place-preserved : goal.loop-place-preserved
@@ -42,7 +43,7 @@ loop-place-preserved c =
         | then-column-shape w ↦ w.column-is ∙ turn_goes_on _ _ _ at.invariant.column (omega arith)
         | else-column-shape w ↦ w.column-is ∙ turn_begins _ _ _ at.invariant.column (omega arith) (omega arith)
       ];
-      kept = kept_twice _ _ _ at.invariant.kept c.in_ok-pending.ensures.kept;
+      kept = starts_with_trans _ _ _ c.in_ok-pending.ensures.kept at.invariant.kept;
     }
 
 pub returns-clause-ok : goal.returns-clause-ok

@@ -1,6 +1,7 @@
 use Rattle.std.proofs.Common.{◌≡◌, ◌%◌, ◌<◌, ℕ, []}
+use Rattle.std.specs.Io.{StartsWith}
 use Rattle.ljpeg_predict.specs.Encoding.{sample_bits, written_scan}
-use Rattle.ljpeg_predict.specs.inner.Writing.{Adds, KeepsPrefix}
+use Rattle.ljpeg_predict.specs.inner.Writing.{Adds}
 use Rattle.ljpeg_predict.proofs.encoder.write_samples.Given as goal
 
 abbrev pub invariant-loop-place : goal.invariant-loop-place
@@ -10,5 +11,5 @@ invariant-loop-place l = record {
       l.pending;
   few : l.pending.held < 8;
   column : l.column ≡ l.place % l.shape.columns;
-  kept : KeepsPrefix l.fn.out.items l.out.items;
+  kept : StartsWith l.out.items l.fn.out.items;
 }

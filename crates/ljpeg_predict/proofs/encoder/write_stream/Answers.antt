@@ -1,7 +1,6 @@
-use Rattle.std.proofs.Common.{◌≡◌, ◌/◌, ◌++◌, ℕ, List, [], ◌∷◌, length, refl, sym, ap, ◌∙◌, subst, append_assoc}
+use Rattle.std.proofs.Common.{◌≡◌, ◌/◌, ◌++◌, ℕ, List, [], ◌∷◌, length, refl, ap, ◌∙◌, append_assoc}
+use Rattle.std.proofs.Transfers.{starts_with_of_append, starts_with_trans}
 use Rattle.ljpeg_predict.specs.Encoding.{head, stuffed}
-use Rattle.ljpeg_predict.specs.inner.Writing.{KeepsPrefix}
-use Rattle.ljpeg_predict.proofs.WriterLemmas.{kept_prefix, kept_twice}
 use Rattle.ljpeg_predict.proofs.encoder.write_stream.Goals as goal
 
 pub returns-clause-ok : goal.returns-clause-ok
@@ -33,8 +32,6 @@ returns-clause-ok c =
 
 pub returns-clause-kept : goal.returns-clause-kept
 returns-clause-kept c =
-    let first = subst (KeepsPrefix c.args.out.now.items) (sym c.in_ok-extend_from_slice.ensures.items)
-    (kept_prefix c.args.out.now.items _) in
-    let second = kept_twice _ _ _ first c.in_ok-write_samples.ensures.kept in
-    kept_twice _ _ _ second (subst (KeepsPrefix c.write_samples.new.out.items)
-    (sym c.in_ok-extend_from_slice-2.ensures.items) (kept_prefix c.write_samples.new.out.items _))
+    let first = starts_with_of_append _ _ _ c.in_ok-extend_from_slice.ensures.items in
+    let second = starts_with_trans _ _ _ c.in_ok-write_samples.ensures.kept first in
+    starts_with_trans _ _ _ (starts_with_of_append _ _ _ c.in_ok-extend_from_slice-2.ensures.items) second
