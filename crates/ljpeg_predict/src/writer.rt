@@ -1,7 +1,6 @@
 //! Bits that are put together to stuffed bytes (ITU-T T.81, F.1.2.3).
 
 ghost use Rattle.std.specs.Prelude.{ℕ, List, ◌≡◌, ◌+◌, ◌-◌, ◌*◌, ◌^◌, ◌<◌, ◌≤◌, ◌++◌, [], ◌∷◌, All, IfOk, OnOk};
-ghost use Rattle.std.specs.Prelude.{length};
 ghost use Rattle.std.specs.Io.{StartsWith};
 ghost use Rattle.binary_digits.specs.Digits.{bits_of, byte_bits};
 ghost use Rattle.ljpeg_predict.specs.Encoding.{stuffed};
