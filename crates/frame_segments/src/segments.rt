@@ -1,8 +1,9 @@
 //! The segments of a frame, opened.
 
 ghost use Rattle.std.proofs.Common.{rules};
-ghost use Rattle.std.specs.Prelude.{◌≡◌, ◌≢◌, ℕ, ◌+◌, ◌-◌, ◌<◌, ◌≤◌, ◌^◌, length, min, slice_get, None, Some, IfErr};
+ghost use Rattle.std.specs.Prelude.{◌≡◌, ◌≢◌, ℕ, ◌+◌, ◌<◌, ◌≤◌, length, slice_get, None, Some, IfErr};
 ghost use Rattle.std.specs.Prelude.{IfOk, OnOk};
+ghost use Rattle.std.specs.Io.Iter.{u64_saturate};
 ghost use Rattle.dng_tags.specs.Facts.{IsFrame};
 ghost use Rattle.dng_tags.specs.Raw.{raw, undecoded};
 ghost use Rattle.frame_segments.specs.Opened.{rects_of};
@@ -94,7 +95,7 @@ impl<'a> Base for Segments<'a> {
 
     ghost cells_of = { λ s. s.cells };
 
-    ghost fetches = { λ s. min s.fetches (2 ^ 64 - 1) };
+    ghost fetches = { λ s. u64_saturate s.fetches };
 
     ghost held = { λ s. Prim.search rules };
 

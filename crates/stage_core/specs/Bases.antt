@@ -1,5 +1,6 @@
 -- Planes that are fetched cell by cell. This is this project's own.
-use Rattle.std.specs.Prelude.{◌≡◌, ℕ, ◌+◌, ◌-◌, ◌^◌, ◌<◌, ◌≤◌, List, length, min, slice_get, Some, true}
+use Rattle.std.specs.Prelude.{◌≡◌, ℕ, ◌+◌, ◌<◌, ◌≤◌, List, length, slice_get, Some, true}
+use Rattle.std.specs.Io.Iter.{u64_saturate}
 use Rattle.std.specs.List.{list_any}
 use Rattle.plane_view.specs.declared.Rect.{Rect}
 use Rattle.plane_view.specs.declared.Shape.{Shape}
@@ -22,4 +23,4 @@ pub record AreCells (cells : List Rect) (s : Shape) : Type 0 where
 
 -- a count that rose by n, held at the greatest number of 64 bits
 abbrev pub raised : ℕ → ℕ → ℕ
-raised before n = min (before + n) (2 ^ 64 - 1)
+raised before n = u64_saturate (before + n)
