@@ -1,5 +1,5 @@
 -- The frame definition at work on a flat frame of 4 by 4 samples, 154 bytes, and on parts of it.
-use Rattle.std.proofs.Common.{◌≡◌, ℕ, pos, negsuc, List, [], ◌∷◌, take, Ok, Err, Some, None, refl, true, false}
+use Rattle.std.proofs.Common.{◌≡◌, ℕ, pos, negsuc, List, [], ◌∷◌, take, Ok, Err, Some, None, refl, false}
 use Rattle.tiff_dirs.specs.Entries.{entries, entry_of, field_of, field_or_fault, slot_at, value_fits, value_place}
 use Rattle.tiff_dirs.specs.Entries.{value_size}
 use Rattle.tiff_dirs.specs.Header.{directory_fits, entry_count, first_directory, has_header, is_big, is_little, open_of}

@@ -1,5 +1,5 @@
 -- What the frame definition makes of a made frame: this project's own choice of one.
-use Rattle.std.specs.Prelude.{ℕ, ◌*◌, ◌^◌, ◌≤◌, Bool, true, false, pos, List, [], ◌∷◌, length, None}
+use Rattle.std.specs.Prelude.{ℕ, ◌*◌, ◌^◌, ◌≤◌, Bool, true, false, pos, [], ◌∷◌, length, None}
 use Rattle.plane_view.specs.Plane.{Plane, plane_of}
 use Rattle.plane_view.specs.Rectangles.{whole_rect}
 use Rattle.tiff_dirs.specs.declared.Order.TheVariants.{Little}

@@ -1,5 +1,5 @@
 -- Segments that were opened, and what is fetched of them.
-use Rattle.std.proofs.Common.{mul-pos, ◌≡◌, ℕ, ◌+◌, ◌*◌, ◌<◌, ◌≤◌, Bool, true, false, cond, eqb, List, [], Option, None}
+use Rattle.std.proofs.Common.{mul-pos, ◌≡◌, ℕ, ◌+◌, ◌<◌, ◌≤◌, Bool, true, false, cond, eqb, List, [], Option, None}
 use Rattle.std.proofs.Common.{Some, Result, Ok, get_or, length, slice_get, slice_index, option_map, refl, sym, ap, ◌∙◌}
 use Rattle.std.proofs.Common.{subst, arith}
 use Rattle.std.specs.Bool.{OnTrue}

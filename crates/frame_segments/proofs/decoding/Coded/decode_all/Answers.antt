@@ -3,7 +3,6 @@ use Rattle.std.specs.Result.{result_err}
 use Rattle.std.proofs.lemmas.Bool.{cases_lt}
 use Rattle.std.proofs.lemmas.Option.{get_or_from_slice_get, slice_get-get_or, slice_get_within}
 use Rattle.tag_rules.specs.declared.faults.SegmentFault.{SegmentFault}
-use Rattle.dng_tags.specs.declared.record.Segment.{Segment}
 use Rattle.frame_segments.specs.inner.Buffers.{Holds, IsDecodable}
 use Rattle.frame_segments.proofs.SegmentLemmas.{decodable, next_fault, no_fault_left, nothing}
 use Rattle.frame_segments.proofs.decoding.Coded.decode_all.Goals as goal

@@ -4,7 +4,6 @@ use Rattle.plane_view.specs.Plane.{Plane}
 use Rattle.plane_view.specs.Lent.{AgreesWith}
 use Rattle.plane_view.specs.Tiles.{loan, tile_rect}
 use Rattle.dng_tags.specs.Raw.{coded_count}
-use Rattle.dng_tags.specs.declared.record.Segment.{Segment}
 use Rattle.frame_segments.specs.inner.Buffers.{AreOpened, Fits, Holds}
 use Rattle.frame_segments.specs.Opened.{OpenedSegments}
 use Rattle.frame_segments.proofs.Opening.{fetched_agrees, found_cell, on_equal, plane_planes, reopened}
